@@ -1,0 +1,6 @@
+pub mod Files
+pub mod Permission
+pub mod Space
+pub mod Step
+pub mod Torn
+pub mod History
