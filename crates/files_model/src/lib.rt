@@ -20,3 +20,6 @@ pub use entries::{Entries, Entry};
 pub use no_memory::NoMemory;
 pub use permission::{Want, may};
 pub use reply::{Reply, Stat};
+
+#[cfg(test)]
+mod tests;
