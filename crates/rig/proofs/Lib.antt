@@ -1,0 +1,5 @@
+pub mod Clocked
+mod Recorded
+pub mod Results
+mod Sectors
+mod Taking
