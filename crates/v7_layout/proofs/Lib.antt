@@ -1,0 +1,5 @@
+pub mod Back
+pub mod Lengths
+pub mod Little
+pub mod Parts
+pub mod RoundTrip

@@ -1,0 +1,8 @@
+use Rattle.std.proofs.Common.{arith, ◌+◌, ◌-◌}
+use Rattle.v7_layout.proofs.Little.{numbers_at_place}
+use Rattle.v7_layout.proofs.fields.numbers_at.Goals as goal
+
+pub returns : goal.returns
+returns c =
+    numbers_at_place 2 100 c.args.at (c.args.at + 200 - c.args.at) c.args.bytes.now c.read_u16_into.new.dst
+    (omega arith) (omega arith) (omega arith) c.read_u16_into.ensures

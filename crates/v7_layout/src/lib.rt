@@ -1,0 +1,16 @@
+//! The records of a volume, as its sectors hold them: super-block, chain record, inode and directory slot.
+#![tactic(auto)]
+
+mod chain;
+mod fields;
+mod inode;
+mod slot;
+mod super_block;
+
+pub use chain::Chain;
+pub use inode::Inode;
+pub use slot::Slot;
+pub use super_block::Super;
+
+#[cfg(test)]
+mod tests;
