@@ -1,0 +1,9 @@
+pub mod Image
+pub mod Frame
+pub mod Tree
+pub mod Weak
+pub mod Damage
+pub mod View
+pub mod Plan
+pub mod Stored
+pub mod Plans

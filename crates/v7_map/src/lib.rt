@@ -1,0 +1,21 @@
+//! What an image of a volume stands for: its files, whether it can be mended, and what plans make of it.
+#![tactic(auto)]
+
+mod body;
+mod inode;
+mod laws;
+mod places;
+mod super_block;
+mod write;
+
+pub use body::{clip, sectors_of, splice};
+pub use inode::{attributes_of, is_current, kind_of, lies_inside};
+pub use laws::{
+    undamaged_is_weak, weak_is_undamaged, write_is_answered, write_is_planned, write_is_put,
+};
+pub use places::{inode_offset_of, inode_sector_of};
+pub use super_block::{has_inode, has_sizes, inodes_of};
+pub use write::write_refusal_of;
+
+#[cfg(test)]
+mod tests;
