@@ -1,0 +1,75 @@
+-- How long replies are.
+use Rattle.std.proofs.Common.{◌≡◌, ℕ, ◌+◌, ◌≤◌, List, [], ◌∷◌, length, length-append, arith}
+use Rattle.std.specs.List.{sum_by}
+use Rattle.std.proofs.lemmas.List.Concat.{length-flat_map}
+use Rattle.files_model.specs.declared.attributes.FileId.{FileId}
+use Rattle.files_model.specs.declared.entries.Entry.{Entry}
+use Rattle.files_model.specs.declared.reply.Reply.{Reply}
+use Rattle.files_model.specs.declared.reply.Reply.TheVariants as reply
+use Rattle.xdr_rpc.specs.Words.{padding, words}
+use Rattle.xdr_rpc.proofs.Sheets.{length-words, length-opaque_bytes}
+use Rattle.nfs2_wire.specs.Handles.{handle_of, mark}
+use Rattle.nfs2_wire.specs.Replies.{number_of, entry_bytes, result_bytes, bytes_of}
+
+-- bytes with their length and padding
+abbrev pub opaque_length : List ℕ → ℕ
+opaque_length bytes = 4 + length bytes + padding (length bytes)
+
+abbrev pub entry_length : Entry → ℕ
+entry_length e = 12 + opaque_length e.name
+
+-- how long the result of a call is, with its status
+abbrev pub result_length : Reply → ℕ
+result_length (reply.Refused status) = 4
+result_length (reply.Attr attr) = 72
+result_length (reply.Handle file attr) = 104
+result_length (reply.Text text) = 4 + opaque_length text
+result_length (reply.Data attr bytes) = 72 + opaque_length bytes
+result_length reply.Done = 4
+result_length (reply.Entries list end) = 12 + sum_by (λ e. length (entry_bytes e)) list
+result_length (reply.Space blocks free) = 24
+
+pub length-entry_bytes : (e : Entry) → length (entry_bytes e) ≡ entry_length e
+length-entry_bytes e =
+    let front : List ℕ = 1 ∷ e.fileid ∷ [] in
+    let back : List ℕ = e.cookie ∷ [] in
+    simp (length-append, length-words, length-opaque_bytes) (omega arith)
+
+pub length-handle_of : (volume : ℕ) (file : FileId) → length (handle_of volume file) ≡ 32
+unfolding handle_of
+length-handle_of volume file = length-words (mark ∷ volume ∷ file.ino ∷ file.generation ∷ 0 ∷ 0 ∷ 0 ∷ 0 ∷ [])
+
+pub length-result_bytes : (r : Reply) (volume : ℕ) → length (result_bytes r volume) ≡ result_length r
+unfolding result_bytes
+length-result_bytes (reply.Refused status) volume = length-words (number_of status ∷ [])
+length-result_bytes (reply.Attr attr) volume = simp (length-append, length-words) (omega arith)
+length-result_bytes (reply.Handle file attr) volume = simp (length-append, length-words, length-handle_of) (omega arith)
+length-result_bytes (reply.Text text) volume = simp (length-append, length-words, length-opaque_bytes) (omega arith)
+length-result_bytes (reply.Data attr bytes) volume = simp (length-append, length-words, length-opaque_bytes) (omega arith)
+length-result_bytes reply.Done volume = length-words (0 ∷ [])
+length-result_bytes (reply.Entries list end) volume = simp (length-append, length-words, length-flat_map) (omega arith)
+length-result_bytes (reply.Space blocks free) volume = length-words (0 ∷ 8192 ∷ 512 ∷ blocks ∷ free ∷ free ∷ [])
+
+-- six words come before the result
+pub length-bytes_of : (xid : ℕ) (r : Reply) (volume : ℕ) → length (bytes_of xid r volume) ≡ 24 + result_length r
+unfolding bytes_of
+length-bytes_of xid r volume =
+    let head : List ℕ = xid ∷ 1 ∷ 0 ∷ 0 ∷ 0 ∷ 0 ∷ [] in
+    omega (arith, length-append (words head) (result_bytes r volume), length-words head, length-result_bytes r volume)
+
+-- a refusal or attributes alone, as WRITE answers
+abbrev pub IsShort : Reply → Type 0
+IsShort (reply.Refused status) = Unit {0}
+IsShort (reply.Attr attr) = Unit {0}
+IsShort _ = ⊥
+
+-- the replies of a WRITE fit in the room for one
+pub short_fits : (xid : ℕ) (r : Reply) (volume : ℕ) → IsShort r → length (bytes_of xid r volume) ≤ 96
+short_fits xid (reply.Refused status) volume short = omega (arith, length-bytes_of xid (reply.Refused status) volume)
+short_fits xid (reply.Attr attr) volume short = omega (arith, length-bytes_of xid (reply.Attr attr) volume)
+short_fits xid (reply.Handle file attr) volume short = absurd short
+short_fits xid (reply.Text text) volume short = absurd short
+short_fits xid (reply.Data attr bytes) volume short = absurd short
+short_fits xid reply.Done volume short = absurd short
+short_fits xid (reply.Entries list end) volume short = absurd short
+short_fits xid (reply.Space blocks free) volume short = absurd short

@@ -1,0 +1,5 @@
+pub mod Handles
+pub mod Arguments
+pub mod Replies
+pub mod Meaning
+pub mod Sending

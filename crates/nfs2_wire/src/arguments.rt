@@ -1,0 +1,83 @@
+//! The arguments of calls (RFC 1094 2.2).
+ghost use Rattle.std.specs.Prelude.{◌≡◌, ◌≤◌, length, IfOk, IfSome, OnErr};
+ghost use Rattle.xdr_rpc.specs.Words.{Gives};
+ghost use Rattle.nfs2_wire.specs.Arguments.{write_args, write_call, nfs_read, IsCall};
+
+use crate::handle::open_handle;
+use files_model::{Call, Data, NoMemory};
+use std::alloc::Global;
+use xdr_rpc::{RpcCall, fixed_at, opaque_at, word_at};
+
+/// What the arguments of a call mean: a call on an open volume; a handle that names no file of one; or nothing.
+#[derive(Drop)]
+pub enum NfsRead {
+    Call { volume: u32, call: Call },
+    Stale,
+    Nothing,
+}
+
+/// The length of a handle, in bytes (RFC 1094 2.3.3).
+const HANDLE: usize = 32;
+
+/// The most bytes of one WRITE (RFC 1094 2.3, MAXDATA).
+const LONGEST_DATA: u32 = 8192;
+
+/// The number of the procedure WRITE (RFC 1094 2.2).
+const WRITE: u32 = 8;
+
+#[derive(Clone, Copy)]
+struct WriteArgs<'a> {
+    handle: &'a [u8],
+    offset: u32,
+    bytes: &'a [u8],
+}
+
+#[tactic(auto, unfolding(crate::specs::Arguments::write_args))]
+fn write_args_of(bytes: &[u8]) -> Option<WriteArgs<'_>>
+    ensures value { Gives (λ args. (args.handle.now, args.offset, args.bytes.now)) result (write_args bytes.now) }
+    ensures bound { IfSome result (λ args. length args.bytes.now ≤ 8192) }
+{
+    let (handle, rest) = fixed_at(bytes, HANDLE)?;
+    let (_beginoffset, rest) = word_at(rest)?;
+    let (offset, rest) = word_at(rest)?;
+    let (_totalcount, rest) = word_at(rest)?;
+    let (bytes, _rest) = opaque_at(rest, LONGEST_DATA)?;
+    Some(WriteArgs {
+        handle,
+        offset,
+        bytes,
+    })
+}
+
+fn read_write(alloc: Global, args: &[u8], volumes: u32) -> Result<NfsRead, NoMemory>
+    ensures ok { IfOk result (λ read. read ≡ write_call volumes (write_args args.now)) }
+    ensures err { OnErr result (IsCall (write_call volumes (write_args args.now))) }
+{
+    let Some(args) = write_args_of(args) else {
+        return Ok(NfsRead::Nothing);
+    };
+    let Some(handle) = open_handle(args.handle, volumes) else {
+        return Ok(NfsRead::Stale);
+    };
+    let call = Call::Write {
+        file: handle.file,
+        offset: args.offset,
+        bytes: Data::copy(alloc, args.bytes)?,
+    };
+    Ok(NfsRead::Call {
+        volume: handle.volume,
+        call,
+    })
+}
+
+/// Reads the arguments of a call, where so many volumes are open (RFC 1094 2.2). Memory can be wanting for a call on one of them alone.
+#[tactic(auto, unfolding(crate::specs::Arguments::nfs_read))]
+pub fn read_nfs(alloc: Global, call: &RpcCall, volumes: u32) -> Result<NfsRead, NoMemory>
+    ensures ok { IfOk result (λ read. read ≡ nfs_read call.now volumes) }
+    ensures err { OnErr result (IsCall (nfs_read call.now volumes)) }
+{
+    match call.procedure {
+        WRITE => read_write(alloc, call.args.bytes(), volumes),
+        _ => Ok(NfsRead::Nothing),
+    }
+}

@@ -1,0 +1,20 @@
+//! NFS version 2 on the wire: the arguments of calls, the bytes of replies, and file handles (RFC 1094).
+#![tactic(auto)]
+
+mod arguments;
+mod attributes;
+mod datagram;
+mod entries;
+mod handle;
+mod reply;
+mod results;
+mod room;
+
+pub use arguments::{NfsRead, read_nfs};
+pub use datagram::{Datagram, read_datagram};
+pub use handle::handle_bytes;
+pub use reply::{stale_reply, write_reply};
+pub use room::{Room, longest};
+
+#[cfg(test)]
+mod tests;

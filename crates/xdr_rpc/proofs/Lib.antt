@@ -1,0 +1,4 @@
+pub mod Numbers
+pub mod Sheets
+pub mod RoundTrip
+pub mod Sent

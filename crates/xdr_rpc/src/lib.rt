@@ -1,0 +1,17 @@
+//! Calls as they come in datagrams, and the words that calls and replies are made of (RFC 1057, RFC 1014).
+#![tactic(auto)]
+
+mod call;
+mod credential;
+mod datagram;
+mod header;
+mod reading;
+mod sheet;
+
+pub use call::{Data9, Read, ReplyBytes, RpcCall};
+pub use datagram::read_call;
+pub use reading::{fixed_at, opaque_at, word_at};
+pub use sheet::Sheet;
+
+#[cfg(test)]
+mod tests;
