@@ -1,0 +1,15 @@
+pub mod Accounts
+pub mod Answering
+pub mod Applying
+pub mod Building
+pub mod Finding
+pub mod Lists
+pub mod Loans
+pub mod Meanings
+pub mod OneHold
+pub mod HasVolume
+pub mod Preparing
+pub mod PutLists
+pub mod Saying
+pub mod Workers
+pub mod Turns

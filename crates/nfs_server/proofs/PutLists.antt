@@ -1,0 +1,38 @@
+-- What a plan has put so far.
+use Rattle.std.proofs.Common.{◌≡◌, inl, inr, ℕ, zero, suc, ◌+◌, ◌<◌, List, [], ◌∷◌, length, get_or, take, set, refl, sym, ◌∙◌, ap, arith, add-one}
+use Rattle.std.specs.List.{AllByRecursion}
+use Rattle.rig.specs.Devices.{Devices, with_sector, SectorOldOrNew}
+use Rattle.v7_map.specs.Image.{Image}
+use Rattle.v7_map.specs.Plan.{put_all}
+use Rattle.nfs_server.specs.Puts.{after_puts, AfterSome}
+
+-- the k-th put
+abbrev pub put_at : List (ℕ × List ℕ) → ℕ → ℕ × List ℕ
+put_at puts k = get_or puts k (0, [])
+
+put_all-suc : (puts : List (ℕ × List ℕ)) (k : ℕ) (image : Image) → k < length puts →
+    put_all (take (suc k) puts) image ≡ set (put_all (take k puts) image) (put_at puts k).0 (put_at puts k).1
+put_all-suc [] k image lt = absurd (omega arith)
+put_all-suc (put ∷ puts) zero image lt = refl
+put_all-suc (put ∷ puts) (suc k) image lt = put_all-suc puts k (set image put.0 put.1) (omega arith)
+
+pub after_more : (puts : List (ℕ × List ℕ)) (k : ℕ) (d : Devices) → k < length puts →
+    after_puts (take (k + 1) puts) d ≡ with_sector (after_puts (take k puts) d) (put_at puts k).0 (put_at puts k).1
+after_more puts k d lt = ap (λ (image : Image). record d { disk = image }) (rw add-one (put_all-suc puts k d.disk lt))
+
+pub some_more : (puts : List (ℕ × List ℕ)) (k : ℕ) (old mid d : Devices) → k < length puts → mid ≡ after_puts (take k puts) old
+    → SectorOldOrNew (put_at puts k).0 (put_at puts k).1 mid d → AfterSome puts old d
+some_more puts k old mid d lt is (inl same) = (k, omega arith, same ∙ is)
+some_more puts k old mid d lt is (inr new) =
+    (k + 1, omega arith, new ∙ ap (λ (m : Devices). with_sector m (put_at puts k).0 (put_at puts k).1) is ∙ sym (after_more puts k old lt))
+
+pub done_more : (puts : List (ℕ × List ℕ)) (k : ℕ) (old mid new : Devices) → k < length puts → mid ≡ after_puts (take k puts) old
+    → new ≡ with_sector mid (put_at puts k).0 (put_at puts k).1 → new ≡ after_puts (take (k + 1) puts) old
+done_more puts k old mid new lt is written =
+    written ∙ ap (λ (m : Devices). with_sector m (put_at puts k).0 (put_at puts k).1) is ∙ sym (after_more puts k old lt)
+
+-- what holds of each put holds of the k-th
+pub each_put : (P : ℕ × List ℕ → Type 0) (puts : List (ℕ × List ℕ)) (k : ℕ) → AllByRecursion P puts → k < length puts → P (put_at puts k)
+each_put P [] k all lt = absurd (omega arith)
+each_put P (put ∷ puts) zero all lt = all.0
+each_put P (put ∷ puts) (suc k) all lt = each_put P puts k all.1 (omega arith)

@@ -1,0 +1,11 @@
+pub mod Account
+pub mod Applied
+pub mod Found
+pub mod Lines
+pub mod Prepares
+pub mod Puts
+pub mod Run
+pub mod Served
+pub mod Turns
+pub mod Worker
+pub mod Words

@@ -1,0 +1,52 @@
+//! One hold of a volume for one call.
+ghost use Rattle.std.specs.Prelude.{◌≡◌, true};
+ghost use Rattle.files_model.specs.Step.{has_row};
+ghost use Rattle.nfs_server.specs.Account.{Grew};
+ghost use Rattle.nfs_server.specs.Served.{Serves};
+
+use crate::releasing::Ready;
+use crate::volume::{Outcome, apply};
+use files_model::{Call, Cred, Reply, Stat};
+use nfs2_wire::{Room, longest, write_reply};
+use rig::{Address, Rig};
+use std::alloc::Global;
+
+/// What became of a call.
+#[derive(Drop)]
+pub enum Served {
+    /// This reply is to be sent.
+    Ready(Ready),
+    /// There was no memory. Nothing was changed, and there is no event.
+    NoMemory,
+}
+
+/// Serves one call on the volume for a worker, all at this second. The reply's room is reserved before the call is made.
+pub fn serve_call<R: Rig>(
+    alloc: Global,
+    rig: &mut R,
+    number: u32,
+    xid: u32,
+    from: Address,
+    call: &Call,
+    cred: &Cred,
+    now: u32,
+) -> Served
+    requires { has_row call.now ≡ true }
+    ensures { Serves (Grew R.tells R.contents R.faults R.moment R.left_since) rig.old rig.new (R.moment rig.new) number now
+        (record { xid = xid; from = from; call = call.now; cred = cred.now }) result }
+{
+    let Ok(room) = Room::new(alloc, longest(call)) else {
+        return Served::NoMemory;
+    };
+    match apply(alloc, rig, call, cred, now) {
+        Outcome::Reply(reply) => Served::Ready(Ready {
+            bytes: write_reply(room, xid, &reply, 0),
+            to: from,
+        }),
+        Outcome::Io => Served::Ready(Ready {
+            bytes: write_reply(room, xid, &Reply::Refused(Stat::Io), 0),
+            to: from,
+        }),
+        Outcome::NoMemory => Served::NoMemory,
+    }
+}

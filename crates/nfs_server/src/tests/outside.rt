@@ -1,0 +1,99 @@
+//! A run over one rig and one post in memory.
+use crate::serve;
+use crate::tests::volume::CLIENT;
+use rig::memory::{MemClock, MemEvent, MemHost, MemLink, MemRig, SentDatagram, StillPauser};
+use rig::{Packet, Post};
+use std::alloc::Global;
+use std::test::Fail;
+
+pub type Host = MemHost<MemRig, StillPauser>;
+
+/// A datagram of the client.
+pub fn datagram(bytes: &[u8]) -> MemEvent {
+    let mut packet = Packet::new();
+    packet.set(bytes);
+    MemEvent::Datagram {
+        from: CLIENT,
+        packet,
+    }
+}
+
+/// What a worker takes: these events, and second 2000 at each turn.
+pub fn post(
+    alloc: Global,
+    events: Vec<MemEvent>,
+) -> Result<Post<MemLink, MemClock, StillPauser>, Fail> {
+    Ok(Post {
+        link: MemLink::new(alloc, events),
+        clock: MemClock::new(Vec::from_slice(alloc, &[2000])?),
+        pauser: StillPauser::new(),
+    })
+}
+
+/// A host that gives these rigs, and a post with these events if there are any.
+pub fn host(alloc: Global, rigs: Vec<MemRig>, events: Option<Vec<MemEvent>>) -> Result<Host, Fail> {
+    let mut posts = Vec::new(alloc);
+    if let Some(events) = events {
+        posts.push(post(alloc, events)?)?;
+    }
+    let clock = MemClock::new(Vec::from_slice(alloc, &[1500])?);
+    Ok(MemHost::new(alloc, rigs, posts, clock)?)
+}
+
+/// Serves by these words. The status.
+pub fn run(alloc: Global, words: &[&str], host: &mut Host) -> Result<u8, Fail> {
+    let mut owned = Vec::new(alloc);
+    for word in words {
+        owned.push(String::from_str(alloc, word)?)?;
+    }
+    Ok(serve(alloc, &owned, host))
+}
+
+/// A host with one rig, after it was served this one datagram, and the status.
+pub fn served(alloc: Global, rig: MemRig, bytes: &[u8]) -> Result<(u8, Host), Fail> {
+    let mut rigs = Vec::new(alloc);
+    rigs.push(rig)?;
+    let mut events = Vec::new(alloc);
+    events.push(datagram(bytes))?;
+    let mut host = host(alloc, rigs, Some(events))?;
+    let status = run(alloc, &["d"], &mut host)?;
+    Ok((status, host))
+}
+
+/// Whether these lines were said, and no more.
+pub fn has_said(host: &Host, wanted: &[&str]) -> bool {
+    if host.lines().len() != wanted.len() {
+        return false;
+    }
+    for (line, text) in host.lines().iter().zip(wanted.iter()) {
+        if line.text() != *text {
+            return false;
+        }
+    }
+    true
+}
+
+// Whether these are one datagram to the client.
+fn is_sent(sent: &[SentDatagram], wanted: &[u8]) -> bool {
+    match sent {
+        [one] => one.to == CLIENT && one.bytes.bytes() == wanted,
+        _ => false,
+    }
+}
+
+/// Whether one post came back, and exactly this was sent over it, to the client.
+pub fn has_sent(host: &Host, wanted: &[u8]) -> bool {
+    match host.posts() {
+        [back] => is_sent(back.1.link.sent(), wanted),
+        _ => false,
+    }
+}
+
+/// The rig that came back, if one did.
+pub fn rig_of(host: Host) -> Option<MemRig> {
+    let mut rigs = host.into_rigs();
+    match rigs.pop() {
+        Some((0, rig)) => Some(rig),
+        _ => None,
+    }
+}

@@ -1,0 +1,132 @@
+//! Statuses and lines.
+use crate::tests::outside::{Host, datagram, has_said, has_sent, host, run, served};
+use crate::tests::volume::{FRESH, WRITTEN, is_volume, rig, worked_reply, worked_write};
+use rig::memory::{MemEvent, MemRig};
+use std::alloc::Global;
+use std::test::Fail;
+
+const OPENED: &str = "volume 0 VOLA00 down recovered 0";
+
+const STOPPED: &str = "volume 0 down dirty 0";
+
+const USAGE: &str =
+    "usage: nfsd VOLUME.. [--workers N] [--turns T] [--port P] [--down] [--accept-loss]";
+
+#[test]
+fn the_worked_write_is_served(rt: HostRuntime) -> Result<(), Fail> {
+    let alloc = rt.alloc();
+    let (status, host) = served(alloc, rig(alloc, FRESH)?, &worked_write())?;
+    assert_eq!(rt; status, 0);
+    assert!(rt; has_sent(&host, &worked_reply()));
+    assert!(rt; has_said(&host, &[OPENED, STOPPED, "received 1 answered 1 dropped 0"]));
+    let [back] = host.rigs() else {
+        panic!(rt; "no rig came back");
+    };
+    assert!(rt; is_volume(alloc, &back.1, WRITTEN)?);
+    Ok(())
+}
+
+// What a host gives: a rig of so many sectors, or the test volume; a post, or none.
+#[derive(Clone, Copy)]
+struct Given {
+    rig: bool,
+    sectors: u32,
+    post: bool,
+}
+
+const ALL: Given = Given {
+    rig: true,
+    sectors: 64,
+    post: true,
+};
+
+const NO_RIG: Given = Given { rig: false, ..ALL };
+
+const NO_POST: Given = Given { post: false, ..ALL };
+
+const ONE_SECTOR: Given = Given { sectors: 1, ..ALL };
+
+const ZEROS: Given = Given { sectors: 2, ..ALL };
+
+// A host that gives this, and two idle events, a datagram without meaning, and a failed one.
+fn host_of(alloc: Global, given: Given) -> Result<Host, Fail> {
+    let mut rigs = Vec::new(alloc);
+    if given.rig {
+        rigs.push(match given.sectors {
+            64 => rig(alloc, FRESH)?,
+            sectors => MemRig::new(alloc, sectors, 0)?,
+        })?;
+    }
+    let mut events = Vec::new(alloc);
+    events.push(MemEvent::Idle)?;
+    events.push(MemEvent::Idle)?;
+    events.push(datagram(b"hello"))?;
+    events.push(MemEvent::Failed)?;
+    host(alloc, rigs, if given.post { Some(events) } else { None })
+}
+
+// Words, what the host gives, the status, and the lines.
+type Row = (&'static [&'static str], Given, u8, &'static [&'static str]);
+
+const ROWS: [Row; 14] = [
+    (&[], ALL, 64, &[USAGE]),
+    (&["a:b"], ALL, 64, &[USAGE]),
+    (&["d", "--turns", "0"], ALL, 64, &[USAGE]),
+    (&["d", "--turns", "1000000001"], ALL, 64, &[USAGE]),
+    (&["d", "--turns"], ALL, 64, &[USAGE]),
+    (&["d", "--workers", "2"], ALL, 64, &[USAGE]),
+    (
+        &["d", "--workers", "1", "--turns", "2"],
+        ALL,
+        72,
+        &[
+            OPENED,
+            STOPPED,
+            "received 0 answered 0 dropped 0",
+            "turns spent",
+        ],
+    ),
+    (
+        &["d", "--turns", "4"],
+        ALL,
+        72,
+        &[
+            OPENED,
+            STOPPED,
+            "received 1 answered 0 dropped 1",
+            "turns spent",
+        ],
+    ),
+    (
+        &["d", "--turns", "5"],
+        ALL,
+        0,
+        &[OPENED, STOPPED, "received 1 answered 0 dropped 1"],
+    ),
+    (
+        &["d"],
+        ALL,
+        0,
+        &[OPENED, STOPPED, "received 1 answered 0 dropped 1"],
+    ),
+    (&["d"], NO_RIG, 66, &["cannot open d"]),
+    (&["d"], NO_POST, 66, &[OPENED, "cannot open port 2049"]),
+    (
+        &["d"],
+        ONE_SECTOR,
+        68,
+        &["volume 0 damaged: sector 1 sizes"],
+    ),
+    (&["d"], ZEROS, 68, &["volume 0 damaged: sector 1 sizes"]),
+];
+
+#[test]
+fn words_and_hosts_decide_on_the_status(rt: HostRuntime) -> Result<(), Fail> {
+    for (words, gives, status, lines) in ROWS {
+        let mut host = host_of(rt.alloc(), gives)?;
+        assert_eq!(rt; run(rt.alloc(), words, &mut host)?, status);
+        assert!(rt; has_said(&host, lines), "status {status}");
+        assert_eq!(rt; host.rigs().len() == 1, gives.rig && status != 64);
+    }
+    Ok(())
+}

@@ -1,0 +1,101 @@
+//! Single turns, and what each says.
+use crate::taking::turn;
+use crate::tests::outside::{datagram, post};
+use crate::tests::volume::{CLIENT, FRESH, WRITTEN, is_volume, rig, worked_write, write_with};
+use crate::{Cells, DropCause, ServerPass, Turn};
+use rig::memory::{MemClock, MemEvent, StillPauser};
+use rig::{Address, Event, Failed, Link, Packet, Post};
+use std::test::Fail;
+
+#[test]
+fn each_event_has_its_turn(rt: HostRuntime) -> Result<(), Fail> {
+    let alloc = rt.alloc();
+    let mut events = Vec::new(alloc);
+    events.push(datagram(b"hello"))?;
+    events.push(MemEvent::Idle)?;
+    events.push(datagram(&write_with(17, 1)))?;
+    events.push(MemEvent::Failed)?;
+    events.push(datagram(&worked_write()))?;
+    let mut post = post(alloc, events)?;
+    let mut pass = ServerPass::new(0, 0);
+    let mut cells = Cells {
+        alloc,
+        rig: rig(alloc, FRESH)?,
+    };
+    for wanted in [
+        Turn::Dropped(DropCause::NoMeaning),
+        Turn::Idle,
+        Turn::Answered(1),
+        Turn::Dropped(DropCause::ReceiveFailed),
+        Turn::Answered(1),
+        Turn::Closed,
+    ] {
+        assert!(rt; pass.numbers.received < 6);
+        assert_eq!(rt; turn(&mut cells, &mut post, &mut pass), wanted);
+    }
+    assert_eq!(rt; pass.second, 2000);
+    assert_eq!(rt;
+        (
+            pass.numbers.received,
+            pass.numbers.answered,
+            pass.numbers.dropped
+        ),
+        (3, 2, 1)
+    );
+    Ok(())
+}
+
+// A link that hands over the worked WRITE and can't send.
+#[derive(Drop)]
+struct Mute {
+    faults: u64,
+}
+
+impl Link for Mute {
+    ghost use Rattle.std.specs.Prelude.{None};
+
+    ghost left = { λ _. None };
+
+    ghost sent = { λ _. None };
+
+    ghost faults = { λ l. l.faults };
+
+    fn recv(&mut self, into: &mut Packet) -> Event {
+        into.set(&worked_write());
+        Event::Datagram(CLIENT)
+    }
+
+    fn send(&mut self, _to: &Address, _bytes: &[u8]) -> Result<(), Failed> {
+        self.faults = self.faults.saturating_add(1);
+        Err(Failed)
+    }
+}
+
+#[test]
+fn what_is_not_sent_is_done(rt: HostRuntime) -> Result<(), Fail> {
+    let alloc = rt.alloc();
+    let mut post = Post {
+        link: Mute { faults: 0 },
+        clock: MemClock::new(Vec::from_slice(alloc, &[2000])?),
+        pauser: StillPauser::new(),
+    };
+    let mut pass = ServerPass::new(0, 0);
+    let mut cells = Cells {
+        alloc,
+        rig: rig(alloc, FRESH)?,
+    };
+    assert_eq!(rt;
+        turn(&mut cells, &mut post, &mut pass),
+        Turn::Dropped(DropCause::SendFailed)
+    );
+    assert_eq!(rt;
+        (
+            pass.numbers.received,
+            pass.numbers.answered,
+            pass.numbers.dropped
+        ),
+        (1, 0, 1)
+    );
+    assert!(rt; is_volume(alloc, &cells.rig, WRITTEN)?);
+    Ok(())
+}
