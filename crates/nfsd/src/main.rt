@@ -1,0 +1,55 @@
+//! The NFS server as a program: its words, this machine as its host, and its status.
+#![tactic(auto)]
+
+mod address;
+mod count;
+mod file_rig;
+mod real_host;
+mod sleep_pauser;
+mod system_clock;
+#[cfg(test)]
+mod tests;
+mod udp_link;
+
+use nfs_server::serve;
+use real_host::RealHost;
+use rig::Say;
+use std::io::ErrorKind;
+use std::process::ExitCode;
+use std::rt::Env;
+use std::{env, io};
+
+const USAGE: &str =
+    "usage: nfsd VOLUME.. [--workers N] [--turns T] [--port P] [--down] [--accept-loss]";
+
+// The words after the program's name. One that isn't UTF-8 is an error.
+fn words_of<T: Env + AllocGlobal>(system: &T) -> io::Result<Vec<String>> {
+    let mut words = Vec::new(system.alloc());
+    for word in env::args(system)?.skip(1) {
+        words
+            .push(word)
+            .map_err(|_| io::Error::from(ErrorKind::OutOfMemory))?;
+    }
+    Ok(words)
+}
+
+// What is answered where the words can't be read: a failed `say` changes no status.
+fn refuse(error: &io::Error, host: &mut impl Say) -> u8 {
+    let (line, status) = match error.kind() {
+        ErrorKind::OutOfMemory => ("no memory", 75),
+        _ => (USAGE, 64),
+    };
+    let _ = host.say(line);
+    status
+}
+
+fn main(rt: HostRuntime) -> ExitCode {
+    let alloc = rt.alloc();
+    let words = words_of(&rt);
+    let mut host = RealHost::new(rt);
+    let status = match words {
+        Ok(words) => serve(alloc, &words, &mut host),
+        Err(error) => refuse(&error, &mut host),
+    };
+    ExitCode::from(status)
+}

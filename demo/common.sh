@@ -1,0 +1,280 @@
+# What the demos share: the test volume, the program, and calls over UDP. It is sourced, by bash.
+# A demo talks to 127.0.0.1 alone, ends every wait by itself, and stops only what it started.
+
+port=2049
+repository=$(cd "$(dirname "${BASH_SOURCE[0]}")/.." && pwd)
+program=${NFSD:-$repository/crates/nfsd/out/nfsd} # another build, where NFSD names one
+folder=$(mktemp -d)
+disk=$folder/disk.img
+running=
+
+# Ends what still runs, and leaves no file behind.
+clean_up() {
+    if [ -n "$running" ]; then
+        kill -KILL "$running" 2>/dev/null
+        wait "$running" 2>/dev/null
+    fi
+    rm -rf "$folder"
+}
+trap clean_up EXIT
+trap 'exit 1' INT TERM
+
+say() {
+    printf '%s\n' "$*"
+}
+
+# fail WHY: the verdict, and the end.
+fail() {
+    say "verdict: FAILED: $*"
+    exit 1
+}
+
+# The numbers of a volume have their low byte first. Each of these prints hexadecimal digits.
+le16() {
+    printf '%02x%02x' $(($1 & 255)) $(($1 >> 8 & 255))
+}
+
+le24() {
+    printf '%02x%02x%02x' $(($1 & 255)) $(($1 >> 8 & 255)) $(($1 >> 16 & 255))
+}
+
+le32() {
+    le16 $(($1 & 65535))
+    le16 $(($1 >> 16 & 65535))
+}
+
+# text_hex TEXT: the digits of its characters.
+text_hex() {
+    printf '%s' "$1" | od -An -v -tx1 | tr -d ' \n'
+}
+
+# bytes HEX..: the bytes that the digits stand for; what isn't a digit is passed over.
+bytes() {
+    local digits="$*" escaped=
+    digits=${digits//[^0-9a-f]/}
+    while [ -n "$digits" ]; do
+        escaped+="\\x${digits:0:2}"
+        digits=${digits:2}
+    done
+    printf "$escaped"
+}
+
+# hex_at FILE OFFSET COUNT: the digits of these bytes.
+hex_at() {
+    od -An -v -tx1 -j "$2" -N "$3" "$1" | tr -d ' \n'
+}
+
+# poke OFFSET HEX: puts bytes into the disk.
+poke() {
+    bytes "$2" | dd of="$disk" bs=4096 seek="$1" oflag=seek_bytes conv=notrunc status=none
+}
+
+# inode NUMBER MODE NLINK OWNER SIZE BLOCK [BLOCK]: one with generation 1 and the times 1000.
+inode() {
+    local place=$((2 * 512 + 64 * ($1 - 1)))
+    poke $place "$(le16 $2)$(le16 $3)$(le16 $4)$(le16 $4)$(le32 $5)$(le24 $6)$(le24 ${7:-0})"
+    poke $((place + 48)) "$(le32 1)$(le32 1000)$(le32 1000)$(le32 1000)"
+}
+
+# The free list: blocks 63 to 15 fill it, block 14 takes it in, and 14 to 7 stand in the next one.
+free_list() {
+    local block first= second=
+    for ((block = 63; block >= 15; block--)); do
+        first+=$(le32 $block)
+    done
+    poke $((14 * 512)) "$(le16 50)$(le32 0)$first"
+    for ((block = 14; block >= 7; block--)); do
+        second+=$(le32 $block)
+    done
+    poke $((512 + 6)) "$(le16 8)$second"
+}
+
+# The free inodes, 16 to 4.
+inode_list() {
+    local number list=
+    for ((number = 16; number >= 4; number--)); do
+        list+=$(le16 $number)
+    done
+    poke $((512 + 208)) "$(le16 13)$list"
+}
+
+# The test volume: 64 sectors, the root with the file `f` in it, number 3, of 1,024 bytes `a`.
+make_volume() {
+    truncate -s $((64 * 512)) "$disk"
+    poke 512 "$(le16 4)$(le32 64)"
+    free_list
+    inode_list
+    poke $((512 + 414)) "$(le32 1000)$(le32 57)$(le16 13)"
+    poke $((512 + 434)) "$(text_hex VOLA00)$(le32 1)"
+    inode 2 $((8#040755)) 2 0 48 4
+    inode 3 $((8#100644)) 1 100 1024 5 6
+    poke $((4 * 512)) "$(le16 2)$(text_hex .)"
+    poke $((4 * 512 + 16)) "$(le16 2)$(text_hex ..)"
+    poke $((4 * 512 + 32)) "$(le16 3)$(text_hex f)"
+    file_of_letters | dd of="$disk" bs=4096 seek=$((5 * 512)) oflag=seek_bytes conv=notrunc status=none
+}
+
+# The file's bytes as they are at first.
+file_of_letters() {
+    head -c 1024 /dev/zero | tr '\0' a
+}
+
+# Finds the program, or proves and builds it.
+find_program() {
+    if [ -x "$program" ]; then
+        return
+    fi
+    say "building the program: rt run in crates/nfsd, which proves it first"
+    (cd "$repository/crates/nfsd" && rt run >"$folder/build.log" 2>&1)
+    if [ ! -x "$program" ]; then
+        tail -n 5 "$folder/build.log"
+        fail "the program could not be built"
+    fi
+}
+
+# call DATAGRAM REPLY SECONDS: sends the file's bytes as one datagram, and keeps the one that comes back.
+call() {
+    exec 3<>/dev/udp/127.0.0.1/$port || return 1
+    dd if="$1" bs=9216 count=1 status=none >&3 2>/dev/null
+    timeout "$3" dd bs=9216 count=1 status=none <&3 >"$2" 2>/dev/null
+    exec 3>&-
+    [ -s "$2" ]
+}
+
+# call_stale: a WRITE whose handle names a volume that is not there, which changes nothing; keeps what comes back.
+call_stale() {
+    bytes 00000009 00000000 00000002 000186a3 00000002 00000008 \
+        00000001 00000018 00000000 00000001 63000000 00000064 00000064 00000000 \
+        00000000 00000000 \
+        56374e32 00000001 00000003 00000001 00000000 00000000 00000000 00000000 \
+        00000000 00000000 00000000 00000000 >"$folder/stale"
+    call "$folder/stale" "$folder/stale.reply" 1
+}
+
+# Whether the server answers that call, by STALE.
+answers() {
+    call_stale && [ "$(hex_at "$folder/stale.reply" 0 400)" = 00000009000000010000000000000000000000000000000000000046 ]
+}
+
+# start LINES: runs the program on the disk, its lines into that file, and waits until it answers.
+start() {
+    local turn
+    if call_stale; then
+        fail "port $port is taken: another server answers there"
+    fi
+    "$program" "$disk" --workers 1 --turns 40 >"$1" 2>&1 &
+    running=$!
+    for ((turn = 0; turn < 50; turn++)); do
+        if ! kill -0 "$running" 2>/dev/null; then
+            wait "$running"
+            local status=$?
+            running=
+            fail "the program ended with status $status: $(cat "$1")"
+        fi
+        if answers; then
+            say "started: nfsd disk.img --workers 1 --turns 40, at 127.0.0.1 port $port"
+            return
+        fi
+        sleep 0.1
+    done
+    fail "the program did not answer in time"
+}
+
+# finish LINES: waits until the program has spent its turns, and shows what it said.
+finish() {
+    local turn status
+    for ((turn = 0; turn < 300; turn++)); do
+        if ! kill -0 "$running" 2>/dev/null; then
+            break
+        fi
+        sleep 0.1
+    done
+    if kill -0 "$running" 2>/dev/null; then
+        fail "the program did not end by its turns"
+    fi
+    wait "$running"
+    status=$?
+    running=
+    say "the program ended with status $status and said:"
+    while IFS= read -r line; do
+        say "    $line"
+    done <"$1"
+    if [ $status -ne 72 ]; then
+        fail "its status is $status, and not 72 for turns that are spent"
+    fi
+}
+
+# write_call XID OFFSET HEX: WRITE of two bytes to the file `f`, by its owner, as one datagram.
+write_call() {
+    bytes "$1" 00000000 00000002 000186a3 00000002 00000008 \
+        00000001 00000018 00000000 00000001 63000000 00000064 00000064 00000000 \
+        00000000 00000000 \
+        56374e32 00000000 00000003 00000001 00000000 00000000 00000000 00000000 \
+        00000000 "$(printf '%08x' "$2")" 00000000 00000002 "${3}0000"
+}
+
+# show HEX: words of four bytes, eight in a line.
+show() {
+    local digits=$1
+    while [ -n "$digits" ]; do
+        local line=${digits:0:64} words=
+        while [ -n "$line" ]; do
+            words+=" ${line:0:8}"
+            line=${line:8}
+        done
+        say "   $words"
+        digits=${digits:64}
+    done
+}
+
+# write_bytes XID OFFSET HEX: sends the WRITE, and checks every word of its reply.
+# The two seconds in it, of the last change of bytes and of attributes, are the clock's.
+write_bytes() {
+    local before after reply second
+    write_call "$1" "$2" "$3" >"$folder/write"
+    say "sent $(stat -c %s "$folder/write") bytes: WRITE of $3 at offset $2 of file 3"
+    show "$(hex_at "$folder/write" 0 400)"
+    before=$(date +%s)
+    call "$folder/write" "$folder/reply" 5 || fail "no reply came"
+    after=$(date +%s)
+    reply=$(hex_at "$folder/reply" 0 400)
+    say "reply of $(stat -c %s "$folder/reply") bytes:"
+    show "$reply"
+    second=${reply:160:8}
+    local wanted="${1}0000000100000000000000000000000000000000"
+    wanted+="00000000"
+    wanted+="00000001000081a400000001000000640000006400000400"
+    wanted+="0000020000000000000000020000000000000003"
+    wanted+="000003e800000000${second}00000000${second}00000000"
+    if [ "$reply" != "$wanted" ]; then
+        say "wanted:"
+        show "$wanted"
+        fail "the reply is another"
+    fi
+    if [ $((16#$second)) -lt "$before" ] || [ $((16#$second)) -gt "$after" ]; then
+        fail "the second in the reply is not the clock's"
+    fi
+    stored_second $((16#$second))
+}
+
+# stored_second SECOND: the inode on the disk has it, as its last two times.
+stored_second() {
+    local times
+    times=$(hex_at "$disk" $((2 * 512 + 2 * 64 + 52)) 12)
+    if [ "$times" != "$(le32 1000)$(le32 "$1")$(le32 "$1")" ]; then
+        fail "the inode on the disk has other times: $times"
+    fi
+}
+
+# holds OFFSET TEXT ..: the file's bytes on the disk are the letters, but for these texts at these offsets.
+holds() {
+    local place
+    file_of_letters >"$folder/wanted"
+    while [ $# -gt 0 ]; do
+        printf '%s' "$2" | dd of="$folder/wanted" bs=4096 seek="$1" oflag=seek_bytes conv=notrunc status=none
+        place=$((5 * 512 + $1 - 1))
+        say "bytes $place to $((place + 3)) of the disk, from offset $(($1 - 1)) of the file: $(dd if="$disk" bs=4 skip=$place iflag=skip_bytes count=1 status=none)"
+        shift 2
+    done
+    dd if="$disk" bs=1024 skip=$((5 * 512)) iflag=skip_bytes count=1 status=none | cmp -s - "$folder/wanted"
+}
