@@ -204,13 +204,18 @@ finish() {
     fi
 }
 
-# write_call XID OFFSET HEX: WRITE of two bytes to the file `f`, by its owner, as one datagram.
-write_call() {
-    bytes "$1" 00000000 00000002 000186a3 00000002 00000008 \
+# file_call XID PROCEDURE: the words of a call on the file `f`, by its owner, up to its handle.
+file_call() {
+    bytes "$1" 00000000 00000002 000186a3 00000002 "$2" \
         00000001 00000018 00000000 00000001 63000000 00000064 00000064 00000000 \
         00000000 00000000 \
-        56374e32 00000000 00000003 00000001 00000000 00000000 00000000 00000000 \
-        00000000 "$(printf '%08x' "$2")" 00000000 00000002 "${3}0000"
+        56374e32 00000000 00000003 00000001 00000000 00000000 00000000 00000000
+}
+
+# write_call XID OFFSET HEX: WRITE of two bytes to the file `f`, by its owner, as one datagram.
+write_call() {
+    file_call "$1" 00000008
+    bytes 00000000 "$(printf '%08x' "$2")" 00000000 00000002 "${3}0000"
 }
 
 # show HEX: words of four bytes, eight in a line.
@@ -227,34 +232,61 @@ show() {
     done
 }
 
-# write_bytes XID OFFSET HEX: sends the WRITE, and checks every word of its reply.
-# The two seconds in it, of the last change of bytes and of attributes, are the clock's.
-write_bytes() {
-    local before after reply second
-    write_call "$1" "$2" "$3" >"$folder/write"
-    say "sent $(stat -c %s "$folder/write") bytes: WRITE of $3 at offset $2 of file 3"
-    show "$(hex_at "$folder/write" 0 400)"
-    before=$(date +%s)
-    call "$folder/write" "$folder/reply" 5 || fail "no reply came"
-    after=$(date +%s)
+# ask WHAT: sends the call in `$folder/call`, shows it and its reply, and leaves the reply's digits in `reply`.
+ask() {
+    say "sent $(stat -c %s "$folder/call") bytes: $1"
+    show "$(hex_at "$folder/call" 0 400)"
+    call "$folder/call" "$folder/reply" 5 || fail "no reply came"
     reply=$(hex_at "$folder/reply" 0 400)
     say "reply of $(stat -c %s "$folder/reply") bytes:"
     show "$reply"
-    second=${reply:160:8}
+}
+
+# answers_with XID SECOND HEX: the reply is that of the file's attributes, changed in that second, and then these words.
+answers_with() {
     local wanted="${1}0000000100000000000000000000000000000000"
     wanted+="00000000"
     wanted+="00000001000081a400000001000000640000006400000400"
     wanted+="0000020000000000000000020000000000000003"
-    wanted+="000003e800000000${second}00000000${second}00000000"
+    wanted+="000003e800000000${2}00000000${2}00000000${3}"
     if [ "$reply" != "$wanted" ]; then
         say "wanted:"
         show "$wanted"
         fail "the reply is another"
     fi
+}
+
+# write_bytes XID OFFSET HEX: sends the WRITE, and checks every word of its reply.
+# The two seconds in it, of the last change of bytes and of attributes, are the clock's; `second` keeps them.
+write_bytes() {
+    local before after
+    write_call "$1" "$2" "$3" >"$folder/call"
+    before=$(date +%s)
+    ask "WRITE of $3 at offset $2 of file 3"
+    after=$(date +%s)
+    second=${reply:160:8}
+    answers_with "$1" "$second" ""
     if [ $((16#$second)) -lt "$before" ] || [ $((16#$second)) -gt "$after" ]; then
         fail "the second in the reply is not the clock's"
     fi
     stored_second $((16#$second))
+}
+
+# get_attributes XID: sends a GETATTR, whose reply has the seconds of the last WRITE.
+get_attributes() {
+    file_call "$1" 00000001 >"$folder/call"
+    ask "GETATTR of file 3"
+    answers_with "$1" "$second" ""
+}
+
+# read_bytes XID OFFSET TEXT: sends a READ of as many bytes as the text of four has, and they come back.
+read_bytes() {
+    {
+        file_call "$1" 00000006
+        bytes "$(printf '%08x' "$2")" 00000004 00000000
+    } >"$folder/call"
+    ask "READ of 4 bytes at offset $2 of file 3"
+    answers_with "$1" "$second" "00000004$(text_hex "$3")"
 }
 
 # stored_second SECOND: the inode on the disk has it, as its last two times.

@@ -1,6 +1,6 @@
 -- What a call answers, and the files that it leaves: one row a call (docs/CALLS.md). The rows grow; `has_row` says which stand.
-use Rattle.std.specs.Prelude.{ℕ, ◌+◌, ◌-◌, ◌*◌, ◌/◌, max, Bool, true, false, List, [], ◌∷◌, ◌++◌, length, take, drop, replicate, map, Option, Some, None, ◌==◌, nat_lt, nat_le, if◌then◌else◌, is_some, not, ◌&&◌}
-use Rattle.std.specs.List.{range_with_len, list_all}
+use Rattle.std.specs.Prelude.{ℕ, ◌+◌, ◌-◌, ◌*◌, ◌/◌, max, min, Bool, true, false, List, [], ◌∷◌, ◌++◌, length, take, drop, replicate, map, Option, Some, None, ◌==◌, nat_le, if◌then◌else◌, is_some, not, ◌&&◌}
+use Rattle.std.specs.List.{range_with_len, list_all, flat_map}
 use Rattle.std.specs.Option.{unwrap_or}
 use Rattle.std.specs.FinMap.{get, insert}
 use Rattle.files_model.specs.declared.attributes.FileId.{FileId}
@@ -78,13 +78,9 @@ at_live files (Some n) answer = answer n
 
 -- ---- the rows
 
--- sector k can be written in place: it is held, and its address stands in the inode itself
-abbrev pub is_in_place : Node → ℕ → Bool
-is_in_place n k = is_some (get n.sectors k) && nat_lt k 10
-
--- a write lies inside the file, and each sector that it touches can be written in place
+-- a write lies inside the file, and each sector that it touches is held
 abbrev pub is_inside : Node → ℕ → ℕ → Bool
-is_inside n offset count = nat_le (offset + count) n.size && list_all (is_in_place n) (touched offset count)
+is_inside n offset count = nat_le (offset + count) n.size && list_all (λ k. is_some (get n.sectors k)) (touched offset count)
 
 -- the refusals of WRITE in their order
 abbrev pub write_refusal : Files → FileId → Node → Cred → ℕ → List ℕ → Option Stat
@@ -99,13 +95,41 @@ write_row files file offset bytes cred now = at_live files (live files file) (λ
     unless files (write_refusal files file n cred offset bytes)
     (reply.Attr (attr_of file.ino (written n offset bytes now)), with_node files file.ino (written n offset bytes now)))
 
+-- GETATTR (RFC 1094 2.2.2)
+unfoldable pub getattr_row : Files → FileId → Reply × Files
+getattr_row files file = at_live files (live files file) (λ n. (reply.Attr (attr_of file.ino n), files))
+
+-- the most bytes that one READ gives
+abbrev pub most_read : ℕ
+most_read = 8192
+
+-- the bytes of a file: its sectors one after the other, up to its size
+unfoldable pub content : Node → List ℕ
+content n = take n.size (flat_map (sector_of n.sectors) (range_with_len 0 (sectors_of n.size)))
+
+-- the refusals of READ in their order
+abbrev pub read_refusal : FileId → Node → Cred → Option Stat
+read_refusal file n cred = first_of (
+    (is_directory n.kind, stat.Isdir) ∷ (is_link n.kind, stat.Nxio)
+    ∷ (not (allows cred (attr_of file.ino n) want.Read), stat.Acces) ∷ [])
+
+-- READ (RFC 1094 2.2.7)
+unfoldable pub read_row : Files → FileId → ℕ → ℕ → Cred → Reply × Files
+read_row files file offset count cred = at_live files (live files file) (λ n.
+    unless files (read_refusal file n cred)
+    (reply.Data (attr_of file.ino n) (take (min count most_read) (drop offset (content n))), files))
+
 -- the calls that have a row; a history has no other call
 abbrev pub has_row : Call → Bool
+has_row (call.Getattr file) = true
+has_row (call.Read file offset count) = true
 has_row (call.Write file offset bytes) = true
 has_row _ = false
 
 -- what a call answers at this time, and the files that it leaves
 abbrev pub step : Files → Call → Cred → ℕ → Reply × Files
+step files (call.Getattr file) cred now = getattr_row files file
+step files (call.Read file offset count) cred now = read_row files file offset count cred
 step files (call.Write file offset bytes) cred now = write_row files file offset bytes cred now
 step files _ cred now = (reply.Refused stat.Stale, files)
 

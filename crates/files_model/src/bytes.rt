@@ -102,6 +102,14 @@ impl Data {
     /// The most bytes of one call.
     pub const LONGEST: usize = 8192;
 
+    /// Takes at most 8,192 bytes.
+    pub fn new(kept: Vec<u8>) -> Data
+        requires { length kept.items ≤ 8192 }
+        ensures { result ≡ kept.items }
+    {
+        Data { kept }
+    }
+
     /// Copies at most 8,192 bytes.
     pub fn copy(alloc: Global, bytes: &[u8]) -> Result<Data, NoMemory>
         requires { length bytes.now ≤ 8192 }

@@ -2,6 +2,7 @@
 use Rattle.std.proofs.Common.{◌≡◌, ℕ, ◌+◌, ◌≤◌, List, [], ◌∷◌, length, length-append, arith}
 use Rattle.std.specs.List.{sum_by}
 use Rattle.std.proofs.lemmas.List.Concat.{length-flat_map}
+use Rattle.files_model.specs.declared.attributes.Attr.{Attr}
 use Rattle.files_model.specs.declared.attributes.FileId.{FileId}
 use Rattle.files_model.specs.declared.entries.Entry.{Entry}
 use Rattle.files_model.specs.declared.reply.Reply.{Reply}
@@ -73,3 +74,7 @@ short_fits xid (reply.Data attr bytes) volume short = absurd short
 short_fits xid reply.Done volume short = absurd short
 short_fits xid (reply.Entries list end) volume short = absurd short
 short_fits xid (reply.Space blocks free) volume short = absurd short
+
+-- the replies of a READ fit in the room for one
+pub data_fits : (xid : ℕ) (attr : Attr) (bytes : List ℕ) (volume : ℕ) → length bytes ≤ 8192 → length (bytes_of xid (reply.Data attr bytes) volume) ≤ 8292
+data_fits xid attr bytes volume few = omega (arith, length-bytes_of xid (reply.Data attr bytes) volume, few)

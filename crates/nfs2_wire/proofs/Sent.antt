@@ -1,4 +1,4 @@
--- A WRITE that was sent is read as that WRITE.
+-- A call that was sent is read as that call.
 use Rattle.std.proofs.Common.{◌≡◌, ℕ, ◌^◌, ◌<◌, ◌≤◌, true, ltb, List, [], ◌∷◌, ◌++◌, length, Some, refl, sym, ap, ◌∙◌, append_assoc, arith}
 use Rattle.std.proofs.lemmas.Bool.{lt-ltb}
 use Rattle.std.proofs.lemmas.List.{append-nil}
@@ -15,9 +15,9 @@ use Rattle.nfs2_wire.specs.declared.arguments.NfsRead.TheVariants as read
 use Rattle.nfs2_wire.specs.declared.datagram.Datagram.{Datagram}
 use Rattle.nfs2_wire.specs.declared.datagram.Datagram.TheVariants as datagram
 use Rattle.nfs2_wire.specs.Handles.{handle_of}
-use Rattle.nfs2_wire.specs.Arguments.{write_args, nfs_read}
+use Rattle.nfs2_wire.specs.Arguments.{getattr_args, read_args, write_args, nfs_read}
 use Rattle.nfs2_wire.specs.Meaning.{Asks, asked, means, meaning_of, meaning}
-use Rattle.nfs2_wire.specs.Sending.{write_bytes, SendsWrite}
+use Rattle.nfs2_wire.specs.Sending.{read_bytes, write_bytes, HasCall, Sends}
 use Rattle.nfs2_wire.proofs.Handles.{handle_again}
 use Rattle.nfs2_wire.proofs.Lengths.{length-handle_of}
 
@@ -39,17 +39,40 @@ write_again volume file offset bytes lt short =
       opaque_again 8192 bytes [] short (omega arith),
     ) refl
 
-read_again : (c : RpcCall) (volumes volume : ℕ) (file : FileId) (offset : ℕ) (bytes : List ℕ) → SendsWrite c volumes volume file offset bytes → nfs_read c volumes ≡ read.Call volume (call.Write file offset bytes)
-unfolding nfs_read
-read_again c volumes volume file offset bytes sends =
-    let is_open : ltb volume volumes ≡ true = lt-ltb volume volumes sends.open_volume in
-    rw (sends.procedure, sends.args, write_again volume file offset bytes sends.offset_fits sends.short, handle_again volume file sends.volume_fits sends.ino_fits sends.generation_fits, is_open) refl
+getattr_args_again : (volume : ℕ) (file : FileId) → getattr_args (handle_of volume file) ≡ Some (handle_of volume file)
+unfolding getattr_args
+getattr_args_again volume file =
+    ap getattr_args (sym (append-nil (handle_of volume file)))
+    ∙ rw (fixed_again 32 (handle_of volume file) [] (length-handle_of volume file)) refl
 
-pub meaning_again : (c : RpcCall) (volumes volume : ℕ) (file : FileId) (offset : ℕ) (bytes : List ℕ) → SendsWrite c volumes volume file offset bytes
-    → meaning (call_bytes c) volumes ≡ Asks c.xid volume c.cred (call.Write file offset bytes)
+read_args_again : (volume : ℕ) (file : FileId) (offset count : ℕ) → offset < 2 ^ 32 → count < 2 ^ 32 → read_args (read_bytes volume file offset count) ≡ Some (handle_of volume file, offset, count)
+unfolding read_args read_bytes
+read_args_again volume file offset count lt fits =
+    let handle : List ℕ = handle_of volume file in
+    let numbers : List ℕ = words (offset ∷ count ∷ 0 ∷ []) in
+    ap (λ (x : List ℕ). read_args (handle ++ x)) (sym (append-nil numbers))
+    ∙ rw (
+      fixed_again 32 handle (numbers ++ []) (length-handle_of volume file),
+      words_again offset (count ∷ 0 ∷ []) [] lt,
+      words_again count (0 ∷ []) [] fits,
+      words_again 0 [] [] (omega arith),
+    ) refl
+
+-- the arguments and the procedure are read as that call
+read_again : (c : RpcCall) (volumes volume : ℕ) (call : Call) → ltb volume volumes ≡ true → volume < 2 ^ 32 → HasCall c volume call → nfs_read c volumes ≡ read.Call volume call
+unfolding nfs_read
+read_again c volumes volume (call.Getattr file) is_open fits has =
+    rw (has.0, has.1.0, getattr_args_again volume file, handle_again volume file fits has.1.1.ino has.1.1.generation, is_open) refl
+read_again c volumes volume (call.Read file offset count) is_open fits has =
+    rw (has.0, has.1.0, read_args_again volume file offset count has.1.1.1.0 has.1.1.1.1, handle_again volume file fits has.1.1.0.ino has.1.1.0.generation, is_open) refl
+read_again c volumes volume (call.Write file offset bytes) is_open fits has =
+    rw (has.0, has.1.0, write_again volume file offset bytes has.1.1.1.0 has.1.1.1.1, handle_again volume file fits has.1.1.0.ino has.1.1.0.generation, is_open) refl
+read_again c volumes volume _ is_open fits has = absurd has
+
+pub meaning_again : (c : RpcCall) (volumes volume : ℕ) (call : Call) → Sends c volumes volume call → meaning (call_bytes c) volumes ≡ Asks c.xid volume c.cred call
 unfolding meaning
-meaning_again c volumes volume file offset bytes sends =
-    ap (λ found. meaning_of found volumes) (call_again c sends.can) ∙ ap (asked c) (read_again c volumes volume file offset bytes sends)
+meaning_again c volumes volume call sends =
+    ap (λ found. meaning_of found volumes) (call_again c sends.can) ∙ ap (asked c) (read_again c volumes volume call (lt-ltb volume volumes sends.open_volume) sends.volume_fits sends.has)
 
 -- a datagram that means a call was read as that call
 pub asks_alone : (d : Datagram) (xid volume : ℕ) (cred : Cred) (c : Call) → means d ≡ Asks xid volume cred c → d ≡ datagram.Asks xid volume cred c

@@ -1,7 +1,7 @@
 //! The arguments of calls (RFC 1094 2.2).
 ghost use Rattle.std.specs.Prelude.{◌≡◌, ◌≤◌, length, IfOk, IfSome, OnErr};
 ghost use Rattle.xdr_rpc.specs.Words.{Gives};
-ghost use Rattle.nfs2_wire.specs.Arguments.{write_args, write_call, nfs_read, IsCall};
+ghost use Rattle.nfs2_wire.specs.Arguments.{getattr_args, getattr_call, read_args, read_call, write_args, write_call, nfs_read, IsWrite};
 
 use crate::handle::open_handle;
 use files_model::{Call, Data, NoMemory};
@@ -22,8 +22,76 @@ const HANDLE: usize = 32;
 /// The most bytes of one WRITE (RFC 1094 2.3, MAXDATA).
 const LONGEST_DATA: u32 = 8192;
 
-/// The number of the procedure WRITE (RFC 1094 2.2).
+/// The numbers of procedures (RFC 1094 2.2).
+const GETATTR: u32 = 1;
+
+const READ: u32 = 6;
+
 const WRITE: u32 = 8;
+
+#[tactic(auto, unfolding(crate::specs::Arguments::getattr_args))]
+fn getattr_args_of(bytes: &[u8]) -> Option<&[u8]>
+    ensures { Gives (λ handle. handle.now) result (getattr_args bytes.now) }
+{
+    let (handle, _rest) = fixed_at(bytes, HANDLE)?;
+    Some(handle)
+}
+
+fn read_getattr(args: &[u8], volumes: u32) -> NfsRead
+    ensures { result ≡ getattr_call volumes (getattr_args args.now) }
+{
+    let Some(handle) = getattr_args_of(args) else {
+        return NfsRead::Nothing;
+    };
+    let Some(handle) = open_handle(handle, volumes) else {
+        return NfsRead::Stale;
+    };
+    NfsRead::Call {
+        volume: handle.volume,
+        call: Call::Getattr { file: handle.file },
+    }
+}
+
+#[derive(Clone, Copy)]
+struct ReadArgs<'a> {
+    handle: &'a [u8],
+    offset: u32,
+    count: u32,
+}
+
+#[tactic(auto, unfolding(crate::specs::Arguments::read_args))]
+fn read_args_of(bytes: &[u8]) -> Option<ReadArgs<'_>>
+    ensures { Gives (λ args. (args.handle.now, args.offset, args.count)) result (read_args bytes.now) }
+{
+    let (handle, rest) = fixed_at(bytes, HANDLE)?;
+    let (offset, rest) = word_at(rest)?;
+    let (count, rest) = word_at(rest)?;
+    let (_totalcount, _rest) = word_at(rest)?;
+    Some(ReadArgs {
+        handle,
+        offset,
+        count,
+    })
+}
+
+fn read_read(args: &[u8], volumes: u32) -> NfsRead
+    ensures { result ≡ read_call volumes (read_args args.now) }
+{
+    let Some(args) = read_args_of(args) else {
+        return NfsRead::Nothing;
+    };
+    let Some(handle) = open_handle(args.handle, volumes) else {
+        return NfsRead::Stale;
+    };
+    NfsRead::Call {
+        volume: handle.volume,
+        call: Call::Read {
+            file: handle.file,
+            offset: args.offset,
+            count: args.count,
+        },
+    }
+}
 
 #[derive(Clone, Copy)]
 struct WriteArgs<'a> {
@@ -51,7 +119,7 @@ fn write_args_of(bytes: &[u8]) -> Option<WriteArgs<'_>>
 
 fn read_write(alloc: Global, args: &[u8], volumes: u32) -> Result<NfsRead, NoMemory>
     ensures ok { IfOk result (λ read. read ≡ write_call volumes (write_args args.now)) }
-    ensures err { OnErr result (IsCall (write_call volumes (write_args args.now))) }
+    ensures err { OnErr result (IsWrite (write_call volumes (write_args args.now))) }
 {
     let Some(args) = write_args_of(args) else {
         return Ok(NfsRead::Nothing);
@@ -70,13 +138,15 @@ fn read_write(alloc: Global, args: &[u8], volumes: u32) -> Result<NfsRead, NoMem
     })
 }
 
-/// Reads the arguments of a call, where so many volumes are open (RFC 1094 2.2). Memory can be wanting for a call on one of them alone.
+/// Reads the arguments of a call, where so many volumes are open (RFC 1094 2.2). Memory can be wanting for a WRITE on one of them alone.
 #[tactic(auto, unfolding(crate::specs::Arguments::nfs_read))]
 pub fn read_nfs(alloc: Global, call: &RpcCall, volumes: u32) -> Result<NfsRead, NoMemory>
     ensures ok { IfOk result (λ read. read ≡ nfs_read call.now volumes) }
-    ensures err { OnErr result (IsCall (nfs_read call.now volumes)) }
+    ensures err { OnErr result (IsWrite (nfs_read call.now volumes)) }
 {
     match call.procedure {
+        GETATTR => Ok(read_getattr(call.args.bytes(), volumes)),
+        READ => Ok(read_read(call.args.bytes(), volumes)),
         WRITE => read_write(alloc, call.args.bytes(), volumes),
         _ => Ok(NfsRead::Nothing),
     }

@@ -1,10 +1,10 @@
 //! What a datagram means.
-ghost use Rattle.std.specs.Prelude.{◌≡◌, ◌≤◌, ℕ, List, length, IfOk, OnErr, IsSome};
-ghost use Rattle.files_model.specs.declared.attributes.FileId.{FileId};
+ghost use Rattle.std.specs.Prelude.{◌≡◌, ◌≤◌, ℕ, length, IfOk, OnErr, IsSome};
+ghost use Rattle.files_model.specs.declared.call.Call.{Call};
 ghost use Rattle.xdr_rpc.specs.declared.call.RpcCall.{RpcCall};
 ghost use Rattle.xdr_rpc.specs.Calls.{rpc_call};
 ghost use Rattle.xdr_rpc.specs.Sending.{call_bytes};
-ghost use Rattle.nfs2_wire.specs.Sending.{SendsWrite};
+ghost use Rattle.nfs2_wire.specs.Sending.{Sends};
 ghost use Rattle.nfs2_wire.specs.Meaning.{asked, meaning, means};
 
 use crate::arguments::{NfsRead, read_nfs};
@@ -61,10 +61,9 @@ fn read_exactly(alloc: Global, bytes: &[u8], volumes: u32) -> Result<Datagram, N
 pub fn read_datagram(alloc: Global, bytes: &[u8], volumes: u32) -> Result<Datagram, NoMemory>
     requires { length bytes.now ≤ 9216 }
     ensures ok { IfOk result (λ datagram. means datagram ≡ meaning bytes.now volumes) }
-    // What is sent as a WRITE to an open volume is read as that WRITE.
-    ensures sent { (rpc : RpcCall) (volume : ℕ) (file : FileId) (offset : ℕ) (written : List ℕ) →
-        SendsWrite rpc volumes volume file offset written → bytes.now ≡ call_bytes rpc →
-        IfOk result (λ datagram. datagram ≡ Datagram.Asks rpc.xid volume rpc.cred (Call.Write file offset written)) }
+    // What is sent as a call on an open volume is read as that call.
+    ensures sent { (rpc : RpcCall) (volume : ℕ) (call : Call) → Sends rpc volumes volume call → bytes.now ≡ call_bytes rpc →
+        IfOk result (λ datagram. datagram ≡ Datagram.Asks rpc.xid volume rpc.cred call) }
     ensures err { OnErr result (IsSome (rpc_call bytes.now)) }
 {
     read_exactly(alloc, bytes, volumes)

@@ -7,7 +7,7 @@ use crate::entries::put_entries;
 use crate::results::{put_attr, put_data, put_handle, put_text, status_number};
 use crate::room::Room;
 use files_model::{Reply, Stat};
-use xdr_rpc::{ReplyBytes, Sheet};
+use xdr_rpc::{ReplyBytes, Sheet, ShortReply};
 
 #[tactic(auto, unfolding(crate::specs::Replies::result_bytes))]
 fn put_result(sheet: &mut Sheet, reply: &Reply, volume: u32)
@@ -37,10 +37,9 @@ pub fn write_reply(room: Room, xid: u32, reply: &Reply, volume: u32) -> ReplyByt
     sheet.into_reply()
 }
 
-/// Writes the reply STALE, of 28 bytes, to a call whose handle names no file of an open volume.
-pub fn stale_reply(room: Room, xid: u32) -> ReplyBytes
-    requires { 28 ≤ room }
+/// The reply STALE, of 28 bytes, to a call whose handle names no file of an open volume. It takes no memory.
+pub fn stale_reply(xid: u32) -> ShortReply
     ensures { result ≡ bytes_of xid (Reply.Refused Stat.Stale) 0 }
 {
-    write_reply(room, xid, &Reply::Refused(Stat::Stale), 0)
+    ShortReply::of_words(&[xid, 1, 0, 0, 0, 0, status_number(Stat::Stale)])
 }

@@ -1,6 +1,6 @@
 use super::*;
 use byteorder::{BigEndian, ByteOrder};
-use files_model::{Attr, Call, Entries, Entry, FileId, Kind, Name, NoMemory, Reply, Text};
+use files_model::{Attr, Call, Data, Entries, Entry, FileId, Kind, Name, NoMemory, Reply, Text};
 use std::alloc::Global;
 use std::test::Fail;
 
@@ -42,7 +42,7 @@ const CASES: [(usize, u32, usize, Found); 14] = [
     (28, 0x58590101, 116, Found::Call),
     (0, 7, 112, Found::Nothing),
     (0, 7, 0, Found::Nothing),
-    (5, 1, 116, Found::Nothing),
+    (5, 2, 116, Found::Nothing),
     (7, 401, 116, Found::Nothing),
     (9, 0xffffffff, 116, Found::Nothing),
     (13, 17, 116, Found::Nothing),
@@ -106,6 +106,82 @@ fn a_write_is_read(rt: HostRuntime) -> Result<(), Fail> {
     Ok(())
 }
 
+// The words before the arguments of a call of this procedure, and the handle of file 3.
+fn call_words(procedure: u32, rest: [u32; 3]) -> [u32; 27] {
+    [
+        7, 0, 2, 0x186a3, 2, procedure, 1, 0x18, 0, 1, 0x63000000, 0x64, 0x64, 0, 0, 0, 0x56374e32,
+        0, 3, 1, 0, 0, 0, 0, rest[0], rest[1], rest[2],
+    ]
+}
+
+// Reads the first bytes of such a call.
+fn read_words(
+    alloc: Global,
+    procedure: u32,
+    rest: [u32; 3],
+    len: usize,
+) -> Result<Datagram, NoMemory> {
+    let mut bytes = [0; 108];
+    BigEndian::write_u32_into(&call_words(procedure, rest), &mut bytes);
+    read_datagram(alloc, &bytes[..len.min(108)], 1)
+}
+
+// Whether the call is on file 3 of generation 1.
+fn is_file(file: FileId) -> bool {
+    file.ino == 3 && file.generation == 1
+}
+
+#[test]
+fn a_read_and_a_getattr_are_read(rt: HostRuntime) -> Result<(), Fail> {
+    let found = match read_words(rt.alloc(), 6, [510, 4, 0], 108)? {
+        Datagram::Asks {
+            xid: 7,
+            volume: 0,
+            call: Call::Read {
+                file,
+                offset: 510,
+                count: 4,
+            },
+            ..
+        } => is_file(file),
+        _ => false,
+    };
+    assert!(rt; found);
+    let cut = match read_words(rt.alloc(), 6, [510, 4, 0], 104)? {
+        Datagram::NoMeaning => true,
+        _ => false,
+    };
+    assert!(rt; cut);
+    let found = match read_words(rt.alloc(), 1, [0, 0, 0], 96)? {
+        Datagram::Asks {
+            xid: 7,
+            volume: 0,
+            call: Call::Getattr { file },
+            ..
+        } => is_file(file),
+        _ => false,
+    };
+    assert!(rt; found);
+    Ok(())
+}
+
+#[test]
+fn data_are_answered(rt: HostRuntime) -> Result<(), Fail> {
+    let reply = Reply::Data {
+        attr: ATTR,
+        bytes: Data::copy(rt.alloc(), b"aXYa")?,
+    };
+    let mut expected = [0; 104];
+    let words = [
+        7, 1, 0, 0, 0, 0, 0, 1, 0x81a4, 1, 0x64, 0x64, 0x400, 0x200, 0, 2, 0, 3, 0x3e8, 0, 0x7d0,
+        0, 0x7d0, 0, 4, 0x61585961,
+    ];
+    BigEndian::write_u32_into(&words, &mut expected);
+    let written = write_reply(Room::new(rt.alloc(), 8292)?, 7, &reply, 0);
+    assert_eq!(rt; written.bytes(), expected.as_slice());
+    Ok(())
+}
+
 #[test]
 fn a_write_is_answered(rt: HostRuntime) -> Result<(), Fail> {
     let mut expected = [0; 96];
@@ -114,7 +190,7 @@ fn a_write_is_answered(rt: HostRuntime) -> Result<(), Fail> {
     assert_eq!(rt; reply.bytes(), expected.as_slice());
     let mut stale = [0; 28];
     BigEndian::write_u32_into(&[9, 1, 0, 0, 0, 0, 70], &mut stale);
-    let reply = stale_reply(Room::new(rt.alloc(), 28)?, 9);
+    let reply = stale_reply(9);
     assert_eq!(rt; reply.bytes(), stale.as_slice());
     Ok(())
 }

@@ -3,11 +3,10 @@ use Rattle.std.proofs.Common.{arith, ◌≡◌, ◌⊎◌, ℕ, ◌+◌, ◌≤�
 use Rattle.files_model.specs.Files.{Files}
 use Rattle.files_model.specs.History.{Event, after, after_event, IsLegal, failures}
 use Rattle.files_model.specs.History.Event.{Done, Failed, Cut}
-use Rattle.rig.specs.Counts.{RoseBy}
-use Rattle.rig.specs.Devices.{Devices}
-use Rattle.rig.specs.Moments.{IsClocked, LeavesOnly}
-use Rattle.rig.proofs.Clocked.{started, goes_on, weaker}
-use Rattle.v7_map.specs.Image.{Image}
+use Rattle.stable.specs.Counts.{RoseBy}
+use Rattle.stable.specs.Moments.{IsClocked, LeavesOnly}
+use Rattle.stable.proofs.Clocked.{started, goes_on, weaker}
+use Rattle.stable.specs.Store.{Image}
 use Rattle.v7_map.specs.Frame.{frame}
 use Rattle.v7_map.specs.View.{view}
 use Rattle.v7_map.specs.Weak.{IsStrong}
@@ -62,17 +61,17 @@ marks_end a b [] p = p
 marks_end a b (x ∷ xs) p = let e = marks_end x.mark b xs p.1 in omega (arith, p.0, e)
 
 -- what crashes since earlier marks leave, after more holds
-lasts_both : (past since : ℕ → Devices → Type 0) (mid from : ℕ) (files then : Files) (xs ys : List Hold) → then ≡ after files (history xs)
-    → ((t : ℕ) (d : Devices) → t ≤ mid → since t d → past t d ⊎ since mid d)
-    → ((d : Devices) → since mid d → IsRecovered then ys d.disk)
+lasts_both : (past since : ℕ → Image → Type 0) (mid from : ℕ) (files then : Files) (xs ys : List Hold) → then ≡ after files (history xs)
+    → ((t : ℕ) (d : Image) → t ≤ mid → since t d → past t d ⊎ since mid d)
+    → ((d : Image) → since mid d → IsRecovered then ys d)
     → MarksWithin from mid xs → Lasts past files xs → Lasts since then ys → Lasts since files (xs ++ ys)
 lasts_both past since mid from files then [] ys is before each marks p q = subst (λ (f : Files). Lasts since f ys) is q
 lasts_both past since mid from files then (x ∷ xs) ys is before each marks p q =
     let is' : then ≡ after (after files x.events) (history xs) = is ∙ after-append files x.events (history xs) in
     let early : x.mark ≤ mid = marks_end x.mark mid xs marks.1 in (
       (λ d left. ⊎_elim
-          (λ was. recovered_left (after files x.events) xs ys d.disk (p.0 d was))
-          (λ now. recovered_right (after files x.events) then xs ys d.disk is' (each d now))
+          (λ was. recovered_left (after files x.events) xs ys d (p.0 d was))
+          (λ now. recovered_right (after files x.events) then xs ys d is' (each d now))
           (before x.mark d early left)),
       lasts_both past since mid x.mark (after files x.events) then xs ys is' before each marks.1 p.1 q,
     )
@@ -80,9 +79,9 @@ lasts_both past since mid from files then (x ∷ xs) ys is before each marks p q
 rose_both : (m n a b c : ℕ) → RoseBy m a b → RoseBy n b c → RoseBy (m + n) a c
 rose_both m n a b c p q = omega (arith, p, q)
 
-module _ {R : Type 0} {tells : Type 0} {contents : R → Devices} {faults moment : R → ℕ} {since : R → ℕ → Devices → Type 0} (clocked : IsClocked tells contents moment since) where
+module _ {R : Type 0} {tells : Type 0} {image : R → Image} {faults moment : R → ℕ} {since : R → ℕ → Image → Type 0} (clocked : IsClocked tells image moment since) where
   -- nothing happened
-  pub grew_none : (old : R) → Grew tells contents faults moment since old old []
+  pub grew_none : (old : R) → Grew tells image faults moment since old old []
   grew_none old = record {
     grown = λ told strong. record { legal = tt; view_is = refl; strong = strong };
     io = omega arith;
@@ -93,60 +92,60 @@ module _ {R : Type 0} {tells : Type 0} {contents : R → Devices} {faults moment
 
   -- One hold that meets its own clause: its events are legal, and a crash in it leaves them torn.
   pub grew_hold : (old new : R) (events : List Event)
-      → (tells → IsStrong (frame (contents old).disk) → HasGrown (view (contents old).disk) (contents new).disk events)
+      → (tells → IsStrong (frame (image old)) → HasGrown (view (image old)) (image new) events)
       → RoseBy (failures events) (faults old) (faults new)
-      → LeavesOnly moment since old new (λ d. IsStrong (frame (contents old).disk) → IsRecovered (view (contents old).disk) (record { events = events; mark = moment new } ∷ []) d.disk)
-      → Grew tells contents faults moment since old new (record { events = events; mark = moment new } ∷ [])
+      → LeavesOnly moment since old new (λ d. IsStrong (frame (image old)) → IsRecovered (view (image old)) (record { events = events; mark = moment new } ∷ []) d)
+      → Grew tells image faults moment since old new (record { events = events; mark = moment new } ∷ [])
   grew_hold old new events grown io crash =
       let all : events ++ [] ≡ events = append-nil events in
       record {
-        grown = λ told strong. subst (λ (es : List Event). HasGrown (view (contents old).disk) (contents new).disk es) (sym all) (grown told strong);
+        grown = λ told strong. subst (λ (es : List Event). HasGrown (view (image old)) (image new) es) (sym all) (grown told strong);
         io = subst (λ (es : List Event). RoseBy (failures es) (faults old) (faults new)) (sym all) io;
         marked = (crash.later, omega arith);
         crash = crash;
         lasts = λ told strong. (
           (λ d left.
-              let same : d ≡ contents new = clocked.only new d left in
+              let same : d ≡ image new = clocked.only new d left in
               let g = grown told strong in
-              subst (λ (x : Devices). IsRecovered (after (view (contents old).disk) events) [] x.disk) (sym same) (record { weak = g.strong.weak; stands = g.view_is })),
+              subst (λ (x : Image). IsRecovered (after (view (image old)) events) [] x) (sym same) (record { weak = g.strong.weak; stands = g.view_is })),
           tt,
         );
       }
 
   -- device calls without a hold: nothing has changed
-  pub grew_idle : (old new : R) → (tells → contents new ≡ contents old) → faults old ≤ faults new → LeavesOnly moment since old new (λ d. d ≡ contents old) → Grew tells contents faults moment since old new []
+  pub grew_idle : (old new : R) → (tells → image new ≡ image old) → faults old ≤ faults new → LeavesOnly moment since old new (λ d. d ≡ image old) → Grew tells image faults moment since old new []
   grew_idle old new same later crash = record {
     grown = λ told strong. record {
       legal = tt;
-      view_is = ap (λ (d : Devices). view d.disk) (same told);
-      strong = subst (λ (d : Devices). IsStrong (frame d.disk)) (sym (same told)) strong;
+      view_is = ap (λ (d : Image). view d) (same told);
+      strong = subst (λ (d : Image). IsStrong (frame d)) (sym (same told)) strong;
     };
     io = omega (arith, later);
     marked = crash.later;
-    crash = weaker crash (λ d left is strong. subst (λ (x : Devices). IsRecovered (view (contents old).disk) [] x.disk) (sym is) (record { weak = strong.weak; stands = refl }));
+    crash = weaker crash (λ d left is strong. subst (λ (x : Image). IsRecovered (view (image old)) [] x) (sym is) (record { weak = strong.weak; stands = refl }));
     lasts = λ told strong. tt;
   }
 
   -- one run of holds and then another
-  pub grew_both : (a b c : R) (xs ys : List Hold) → Grew tells contents faults moment since a b xs → Grew tells contents faults moment since b c ys → Grew tells contents faults moment since a c (xs ++ ys)
+  pub grew_both : (a b c : R) (xs ys : List Hold) → Grew tells image faults moment since a b xs → Grew tells image faults moment since b c ys → Grew tells image faults moment since a c (xs ++ ys)
   grew_both a b c xs ys p q = record {
     grown = λ told strong.
         let g = p.grown told strong in
         let h = q.grown told g.strong in
         record {
-          legal = subst (IsLegal (view (contents a).disk)) (sym (history-append xs ys)) (legal-append (view (contents a).disk) (history xs) (history ys) g.legal (subst (λ (f : Files). IsLegal f (history ys)) g.view_is h.legal));
-          view_is = h.view_is ∙ ap (λ (f : Files). after f (history ys)) g.view_is ∙ sym (after-append (view (contents a).disk) (history xs) (history ys)) ∙ ap (after (view (contents a).disk)) (sym (history-append xs ys));
+          legal = subst (IsLegal (view (image a))) (sym (history-append xs ys)) (legal-append (view (image a)) (history xs) (history ys) g.legal (subst (λ (f : Files). IsLegal f (history ys)) g.view_is h.legal));
+          view_is = h.view_is ∙ ap (λ (f : Files). after f (history ys)) g.view_is ∙ sym (after-append (view (image a)) (history xs) (history ys)) ∙ ap (after (view (image a))) (sym (history-append xs ys));
           strong = h.strong;
         };
     io = subst (λ (n : ℕ). RoseBy n (faults a) (faults c)) (sym (failures-append (history xs) (history ys)) ∙ ap failures (sym (history-append xs ys))) (rose_both (failures (history xs)) (failures (history ys)) (faults a) (faults b) (faults c) p.io q.io);
     marked = marks_both (moment a) (moment b) (moment c) xs ys p.marked q.marked;
-    crash = goes_on (weaker p.crash (λ d left is strong. recovered_left (view (contents a).disk) xs ys d.disk (is strong))) q.crash (λ d left is strong.
+    crash = goes_on (weaker p.crash (λ d left is strong. recovered_left (view (image a)) xs ys d (is strong))) q.crash (λ d left is strong.
         let told = clocked.told c (moment b) d left in
         let g = p.grown told strong in
-        recovered_right (view (contents a).disk) (view (contents b).disk) xs ys d.disk g.view_is (is g.strong));
+        recovered_right (view (image a)) (view (image b)) xs ys d g.view_is (is g.strong));
     lasts = λ told strong.
         let g = p.grown told strong in
-        lasts_both (since b) (since c) (moment b) (moment a) (view (contents a).disk) (view (contents b).disk) xs ys g.view_is
+        lasts_both (since b) (since c) (moment b) (moment a) (view (image a)) (view (image b)) xs ys g.view_is
         (λ t d early left. q.crash.before t d early left)
         (λ d left. q.crash.each d left g.strong)
         p.marked (p.lasts told strong) (q.lasts told g.strong);

@@ -1,5 +1,5 @@
 -- One datagram, by its meaning and by what came of it.
-use Rattle.std.proofs.Common.{arith, ◌≡◌, ◌≢◌, ℕ, ◌≤◌, List, [], ◌∷◌, ◌++◌, map, Option, Some, refl, sym, ap, ◌∙◌, subst}
+use Rattle.std.proofs.Common.{arith, ◌≡◌, ◌≢◌, ℕ, List, [], ◌∷◌, ◌++◌, map, Option, Some, refl, sym, ap, ◌∙◌, subst}
 use Rattle.std.specs.List.{filter_map}
 use Rattle.files_model.specs.declared.address.Address.{Address}
 use Rattle.files_model.specs.declared.call.Call.{Call}
@@ -7,7 +7,6 @@ use Rattle.files_model.specs.declared.credential.Cred.{Cred}
 use Rattle.files_model.specs.declared.reply.Reply.TheVariants as reply
 use Rattle.files_model.specs.declared.reply.Stat.TheVariants as stat
 use Rattle.files_model.specs.History.{Event, Item, items_of}
-use Rattle.rig.specs.Counts.{RoseBy}
 use Rattle.rig.specs.Links.{gains}
 use Rattle.rig.specs.Links.Heard.{Datagram}
 use Rattle.nfs2_wire.specs.Meaning.{Meaning, meaning, stale}
@@ -23,6 +22,7 @@ use Rattle.nfs_server.specs.declared.releasing.Released.TheVariants as released
 use Rattle.nfs_server.specs.declared.turning.DropCause.TheVariants as cause
 use Rattle.nfs_server.specs.declared.turning.Turn.{Turn}
 use Rattle.nfs_server.specs.declared.turning.Turn.TheVariants as turn
+use Rattle.nfs_server.proofs.Counts.{rose_earlier}
 use Rattle.nfs_server.proofs.Turns.{works_silent, works_outside, works_event}
 use Rattle.nfs_server.proofs.Workers.{sends_nothing, sends_one, sends_fails}
 
@@ -32,9 +32,6 @@ asks-some xid volume cred c e = cc
 
 outside-some : (answer : List ℕ) → Outside answer ≢ NoMeaning
 outside-some answer e = cc
-
-rose_earlier : (n a b c : ℕ) → a ≤ b → RoseBy n b c → RoseBy n a c
-rose_earlier n a b c le rose = omega (arith, le, rose)
 
 module _ {R L : Type 0} (grew : R → R → List Hold → Type 0) (link_of : L → Worker) (rig rig' : R) (link : L) (number now : ℕ) (from : Address) (bytes : List ℕ) where
   -- nothing was offered to the link
@@ -79,15 +76,7 @@ module _ {R L : Type 0} (grew : R → R → List Hold → Type 0) (link_of : L �
     took = refl;
     timed = tt;
   }
-  answers_stale link' xid (turn.Dropped cause.NoMemory) means grows left h = record {
-    holds = [];
-    replies = [];
-    grows = grows;
-    works = λ old takes same before. works_silent 1 number old (link_of link') (Datagram from bytes) takes (sends_nothing old (link_of link') (h.0 ∙ same) (let e = h.1 in omega (arith, before, e)));
-    says = (tt, refl);
-    took = refl;
-    timed = tt;
-  }
+  answers_stale link' xid (turn.Dropped cause.NoMemory) means grows left h = absurd h
   answers_stale link' xid (turn.Dropped cause.NoMeaning) means grows left h = absurd h
   answers_stale link' xid (turn.Dropped cause.ReceiveFailed) means grows left h = absurd h
   answers_stale link' xid turn.Idle means grows left h = absurd h

@@ -6,8 +6,8 @@ use Rattle.rig.specs.declared.host.HostFault.{HostFault}
 use Rattle.rig.specs.declared.host.HostFault.TheVariants as host_fault
 use Rattle.nfs_server.specs.Run.{Course, Usage, NoRig, NoVolume, NoPost, Ran, Loan, EndsAs, Understood, status_of, rigs_in, refusal_status, opening_status, end_status}
 use Rattle.nfs_server.specs.Words.{Asked, asked_by}
-use Rattle.nfs_server.specs.declared.opening.OpenFault.{OpenFault}
-use Rattle.nfs_server.specs.declared.opening.OpenFault.TheVariants as open_fault
+use Rattle.volume.specs.declared.fault.OpenFault.{OpenFault}
+use Rattle.volume.specs.declared.fault.OpenFault.TheVariants as open_fault
 use Rattle.nfs_server.specs.declared.turning.Ended.{Ended}
 use Rattle.nfs_server.specs.declared.turning.Ended.TheVariants as ended
 use Rattle.nfs_server.proofs.Lists.{took_none}

@@ -1,6 +1,7 @@
 -- What a datagram asks is a call that is served, on an open volume.
 use Rattle.std.proofs.Common.{◌≡◌, ℕ, ◌<◌, Bool, true, false, cond, List, refl, sym, ap, ◌∙◌, subst, eqb, ltb, Option, Some, None, arith}
 use Rattle.std.proofs.lemmas.Bool.{ltb-true}
+use Rattle.files_model.specs.declared.attributes.FileId.{FileId}
 use Rattle.files_model.specs.declared.call.Call.{Call}
 use Rattle.files_model.specs.declared.call.Call.TheVariants as call
 use Rattle.files_model.specs.declared.credential.Cred.{Cred}
@@ -10,7 +11,7 @@ use Rattle.xdr_rpc.specs.Calls.{rpc_call}
 use Rattle.nfs2_wire.specs.declared.arguments.NfsRead.{NfsRead}
 use Rattle.nfs2_wire.specs.declared.arguments.NfsRead.TheVariants as read
 use Rattle.nfs2_wire.specs.declared.handle.Handle.{Handle}
-use Rattle.nfs2_wire.specs.Arguments.{write_args, write_call, nfs_read, on_file}
+use Rattle.nfs2_wire.specs.Arguments.{getattr_args, getattr_call, read_args, read_call, write_args, write_call, nfs_read, on_file}
 use Rattle.nfs2_wire.specs.Handles.{handle, of_open}
 use Rattle.nfs2_wire.specs.Meaning.{Meaning, meaning, meaning_of, asked}
 use Rattle.nfs2_wire.specs.Meaning.Meaning.{NoMeaning, Outside, Asks}
@@ -30,25 +31,38 @@ IsOpenMeaning volumes NoMeaning = Unit {0}
 IsOpenMeaning volumes (Outside reply) = Unit {0}
 IsOpenMeaning volumes (Asks xid volume cred c) = IsOpenCall volumes volume c
 
-on_open : (volumes offset : ℕ) (bytes : List ℕ) (h : Handle) (b : Bool) → ltb h.volume volumes ≡ b → IsOpenRead volumes (on_file (cond b (Some h) None) (λ file. call.Write file offset bytes))
-on_open volumes offset bytes h true lt = record { row = refl; open_volume = ltb-true h.volume volumes lt }
-on_open volumes offset bytes h false ge = tt
+-- a call that has a row whatever its file is
+module _ (f : FileId → Call) (row : (file : FileId) → has_row (f file) ≡ true) (volumes : ℕ) where
+  on_open : (h : Handle) (b : Bool) → ltb h.volume volumes ≡ b → IsOpenRead volumes (on_file (cond b (Some h) None) f)
+  on_open h true lt = record { row = row h.file; open_volume = ltb-true h.volume volumes lt }
+  on_open h false ge = tt
 
-open_write : (volumes offset : ℕ) (bytes : List ℕ) (o : Option Handle) → IsOpenRead volumes (on_file (of_open volumes o) (λ file. call.Write file offset bytes))
-open_write volumes offset bytes None = tt
-open_write volumes offset bytes (Some h) = on_open volumes offset bytes h (ltb h.volume volumes) refl
+  open_file : (o : Option Handle) → IsOpenRead volumes (on_file (of_open volumes o) f)
+  open_file None = tt
+  open_file (Some h) = on_open h (ltb h.volume volumes) refl
 
-open_args : (volumes : ℕ) (o : Option (List ℕ × ℕ × List ℕ)) → IsOpenRead volumes (write_call volumes o)
-open_args volumes None = tt
-open_args volumes (Some args) = open_write volumes args.1 args.2 (handle args.0)
+open_getattr : (volumes : ℕ) (o : Option (List ℕ)) → IsOpenRead volumes (getattr_call volumes o)
+open_getattr volumes None = tt
+open_getattr volumes (Some args) = open_file (λ file. call.Getattr file) (λ file. refl) volumes (handle args)
 
-open_procedure : (volumes : ℕ) (rpc : RpcCall) (b : Bool) → IsOpenRead volumes (cond b (write_call volumes (write_args rpc.args)) read.Nothing)
-open_procedure volumes rpc true = open_args volumes (write_args rpc.args)
-open_procedure volumes rpc false = tt
+open_reading : (volumes : ℕ) (o : Option (List ℕ × ℕ × ℕ)) → IsOpenRead volumes (read_call volumes o)
+open_reading volumes None = tt
+open_reading volumes (Some args) = open_file (λ file. call.Read file args.1 args.2) (λ file. refl) volumes (handle args.0)
+
+open_write : (volumes : ℕ) (o : Option (List ℕ × ℕ × List ℕ)) → IsOpenRead volumes (write_call volumes o)
+open_write volumes None = tt
+open_write volumes (Some args) = open_file (λ file. call.Write file args.1 args.2) (λ file. refl) volumes (handle args.0)
+
+either : (volumes : ℕ) (b : Bool) (r s : NfsRead) → IsOpenRead volumes r → IsOpenRead volumes s → IsOpenRead volumes (cond b r s)
+either volumes true r s p q = p
+either volumes false r s p q = q
 
 open_read : (volumes : ℕ) (rpc : RpcCall) → IsOpenRead volumes (nfs_read rpc volumes)
 unfolding nfs_read
-open_read volumes rpc = open_procedure volumes rpc (eqb rpc.procedure 8)
+open_read volumes rpc =
+    either volumes (eqb rpc.procedure 1) _ _ (open_getattr volumes (getattr_args rpc.args))
+    (either volumes (eqb rpc.procedure 6) _ _ (open_reading volumes (read_args rpc.args))
+    (either volumes (eqb rpc.procedure 8) _ read.Nothing (open_write volumes (write_args rpc.args)) tt))
 
 open_asked : (volumes : ℕ) (rpc : RpcCall) (r : NfsRead) → IsOpenRead volumes r → IsOpenMeaning volumes (asked rpc r)
 open_asked volumes rpc (read.Call volume c) h = h

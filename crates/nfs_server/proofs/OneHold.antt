@@ -8,21 +8,27 @@ use Rattle.files_model.specs.declared.reply.Stat.TheVariants as stat
 use Rattle.files_model.specs.Step.{has_row}
 use Rattle.files_model.specs.History.{Event, Item}
 use Rattle.files_model.specs.History.Event.{Done, Failed}
-use Rattle.rig.specs.Devices.{Devices}
-use Rattle.rig.specs.Moments.{IsClocked}
-use Rattle.rig.proofs.Clocked.{weaker}
+use Rattle.stable.specs.Store.{Image}
+use Rattle.stable.specs.Moments.{IsClocked}
+use Rattle.stable.proofs.Clocked.{weaker}
 use Rattle.v7_map.specs.View.{view}
 use Rattle.nfs2_wire.specs.Replies.{bytes_of, longest_of}
-use Rattle.nfs2_wire.proofs.Lengths.{short_fits}
-use Rattle.nfs_server.specs.declared.volume.outcome.Outcome.TheVariants as outcome
+use Rattle.nfs2_wire.proofs.Lengths.{short_fits, data_fits}
+use Rattle.volume.specs.declared.outcome.Outcome.TheVariants as outcome
 use Rattle.nfs_server.specs.declared.releasing.Ready.{Ready}
 use Rattle.nfs_server.specs.Account.{Grew}
-use Rattle.nfs_server.specs.Applied.{HasForm, IsApplied}
+use Rattle.volume.specs.Applied.{HasForm, IsApplied}
 use Rattle.nfs_server.specs.Served.{IsServed}
 use Rattle.nfs_server.proofs.Accounts.{grew_hold}
 
 -- the bytes of a reply fit the room of its call
 pub reply_fits : (xid : ℕ) (c : Call) (r : Reply) → has_row c ≡ true → HasForm c r → length (bytes_of xid r 0) ≤ longest_of c
+reply_fits xid (call.Getattr file) (reply.Refused status) row form = let fits = short_fits xid (reply.Refused status) 0 tt in omega (arith, fits)
+reply_fits xid (call.Getattr file) (reply.Attr attr) row form = let fits = short_fits xid (reply.Attr attr) 0 tt in omega (arith, fits)
+reply_fits xid (call.Getattr file) _ row form = absurd form
+reply_fits xid (call.Read file offset count) (reply.Refused status) row form = let fits = short_fits xid (reply.Refused status) 0 tt in omega (arith, fits)
+reply_fits xid (call.Read file offset count) (reply.Data attr bytes) row form = data_fits xid attr bytes 0 form
+reply_fits xid (call.Read file offset count) _ row form = absurd form
 reply_fits xid (call.Write file offset bytes) (reply.Refused status) row form = short_fits xid (reply.Refused status) 0 tt
 reply_fits xid (call.Write file offset bytes) (reply.Attr attr) row form = short_fits xid (reply.Attr attr) 0 tt
 reply_fits xid (call.Write file offset bytes) _ row form = absurd form
@@ -31,11 +37,11 @@ reply_fits xid _ r row form = absurd (cc)
 pub refusal_fits : (xid : ℕ) (c : Call) → has_row c ≡ true → length (bytes_of xid (reply.Refused stat.Io) 0) ≤ longest_of c
 refusal_fits xid c row = reply_fits xid c (reply.Refused stat.Io) row tt
 
-module _ {R : Type 0} {tells : Type 0} {contents : R → Devices} {faults moment : R → ℕ} {since : R → ℕ → Devices → Type 0} (clocked : IsClocked tells contents moment since)
+module _ {R : Type 0} {tells : Type 0} {image : R → Image} {faults moment : R → ℕ} {since : R → ℕ → Image → Type 0} (clocked : IsClocked tells image moment since)
     (old new : R) (number now : ℕ) (item : Item) (row : has_row item.call ≡ true) where
   -- a reply
   pub served_reply : (r : Reply) (ready : Ready) → ready.to ≡ item.from → ready.bytes ≡ bytes_of item.xid r 0
-      → IsApplied tells contents faults moment since old new item.call item.cred now (outcome.Reply r) → IsServed (Grew tells contents faults moment since) old new (moment new) number now item ready
+      → IsApplied tells image faults moment since old new item.call item.cred now (outcome.Reply r) → IsServed (Grew tells image faults moment since) old new (moment new) number now item ready
   served_reply r ready to bytes applied = record {
     event = Done number item now r;
     grows = grew_hold clocked old new (Done number item now r ∷ [])
@@ -50,9 +56,9 @@ module _ {R : Type 0} {tells : Type 0} {contents : R → Devices} {faults moment
 
   -- the device failed
   pub served_io : (ready : Ready) → ready.to ≡ item.from → ready.bytes ≡ bytes_of item.xid (reply.Refused stat.Io) 0
-      → IsApplied tells contents faults moment since old new item.call item.cred now outcome.Io → IsServed (Grew tells contents faults moment since) old new (moment new) number now item ready
+      → IsApplied tells image faults moment since old new item.call item.cred now outcome.Io → IsServed (Grew tells image faults moment since) old new (moment new) number now item ready
   served_io ready to bytes applied =
-      let event : Event = Failed number (item ∷ []) now (view (contents new).disk) in
+      let event : Event = Failed number (item ∷ []) now (view (image new)) in
       record {
         event = event;
         grows = grew_hold clocked old new (event ∷ [])
@@ -66,7 +72,7 @@ module _ {R : Type 0} {tells : Type 0} {contents : R → Devices} {faults moment
       }
 
   -- there was no memory
-  pub served_nothing : IsApplied tells contents faults moment since old new item.call item.cred now outcome.NoMemory → Grew tells contents faults moment since old new []
+  pub served_nothing : IsApplied tells image faults moment since old new item.call item.cred now outcome.NoMemory → Grew tells image faults moment since old new []
   served_nothing applied = record {
     grown = λ told strong. let kept = applied.leaves told strong in record { legal = tt; view_is = kept.view_is; strong = kept.strong };
     io = let cause = applied.cause in omega arith;

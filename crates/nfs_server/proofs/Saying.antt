@@ -1,16 +1,15 @@
 -- What was said.
-use Rattle.std.proofs.Common.{arith, ◌≡◌, ℕ, ◌+◌, ◌-◌, ◌≤◌, List, [], ◌∷◌, ◌++◌, length, Option, Result, Ok, Err, OnOk, OnErr, sym, ap, ◌∙◌, subst, length-append}
+use Rattle.std.proofs.Common.{arith, ◌≡◌, ℕ, ◌-◌, List, [], ◌∷◌, ◌++◌, length, Option, Result, Ok, Err, OnOk, OnErr, sym, ap, ◌∙◌, subst, length-append}
 use Rattle.std.specs.Option.{option_map}
-use Rattle.rig.specs.Counts.{RoseBy, HasCause}
+use Rattle.stable.specs.Counts.{RoseBy, HasCause}
 use Rattle.rig.specs.Hosts.{SameLoans, SameLines}
 use Rattle.rig.specs.Links.{gains}
-use Rattle.nfs_server.specs.Lines.{Said}
-use Rattle.nfs_server.specs.Run.{OnlyTold}
+use Rattle.nfs_server.specs.Lines.{Said, numbers_line, stopped_line}
+use Rattle.nfs_server.specs.Run.{OnlyTold, closing_lines, end_lines}
 use Rattle.nfs_server.specs.Worker.LeavesOut.{none, keep, leave}
+use Rattle.nfs_server.specs.declared.turning.Ended.{Ended}
+use Rattle.nfs_server.proofs.Counts.{rose_both}
 use Rattle.nfs_server.proofs.Lists.{leaves_both, leaves-length, took_none, took_both}
-
-missing_both : (m n r s f g h : ℕ) → r ≤ m → s ≤ n → RoseBy (m - r) f g → RoseBy (n - s) g h → RoseBy (m + n - (r + s)) f h
-missing_both m n r s f g h few few' p q = omega arith
 
 module _ {S : Type 0} (lines_of : S → Option (List (List ℕ))) (faults_of : S → ℕ) where
   pub said_one : {E : Type 0} (old new : S) (line : List ℕ) (result : Result (Unit {0}) E) → OnOk result (lines_of new ≡ gains (lines_of old) line) → OnErr result (lines_of new ≡ lines_of old)
@@ -26,8 +25,21 @@ module _ {S : Type 0} (lines_of : S → Option (List (List ℕ))) (faults_of : S
     missing =
         let few = leaves-length p.said xs p.left_out in
         let few' = leaves-length q.said ys q.left_out in
-        rw (length-append xs ys, length-append p.said q.said) (missing_both (length xs) (length ys) (length p.said) (length q.said) (faults_of a) (faults_of b) (faults_of c) few few' p.missing q.missing);
+        rw (length-append xs ys, length-append p.said q.said) (rose_both (length xs) (length ys) (length p.said) (length q.said) (faults_of a) (faults_of b) (faults_of c) few few' p.missing q.missing);
   }
+
+  -- nothing was to be said
+  pub said_none : (a : S) → Said lines_of faults_of a a []
+  said_none a = record { said = []; told = took_none (lines_of a); left_out = none; missing = omega arith }
+
+  -- the closing lines were said, the last of them those of the end
+  pub said_closing : (a b c d : S) (text : List ℕ) (way found : Ended) (received answered : ℕ) → found ≡ way → text ≡ numbers_line received answered (received - answered)
+      → Said lines_of faults_of a b (stopped_line ∷ []) → Said lines_of faults_of b c (text ∷ []) → Said lines_of faults_of c d (end_lines way)
+      → Said lines_of faults_of a d (closing_lines found received answered)
+  said_closing a b c d text way found received answered is line one two last =
+      subst (λ (e : Ended). Said lines_of faults_of a d (closing_lines e received answered)) (sym is)
+      (subst (λ (t : List ℕ). Said lines_of faults_of a d (stopped_line ∷ t ∷ end_lines way)) line
+      (said_both a c d (stopped_line ∷ text ∷ []) (end_lines way) (said_both a b c (stopped_line ∷ []) (text ∷ []) one two) last))
 
   -- nothing was said before
   pub said_later : (a b c : S) (xs : List (List ℕ)) → SameLines lines_of faults_of a b → Said lines_of faults_of b c xs → Said lines_of faults_of a c xs

@@ -2,9 +2,9 @@
 use Rattle.std.proofs.Common.{arith, ◌≡◌, ◌≢◌, ℕ, ◌+◌, ◌≤◌, List, [], ◌∷◌, ◌++◌, length, Option, Some, refl, sym, ap, ◌∙◌, subst, append-nil, length-append, ◌<◌}
 use Rattle.files_model.specs.declared.address.Address.{Address}
 use Rattle.files_model.specs.History.{Event as Done, Item, items_of}
-use Rattle.rig.specs.Counts.{Rose, RoseBy, one_more}
-use Rattle.rig.specs.Devices.{Devices}
-use Rattle.rig.specs.Moments.{IsClocked}
+use Rattle.stable.specs.Counts.{Rose, one_more}
+use Rattle.stable.specs.Store.{Image}
+use Rattle.stable.specs.Moments.{IsClocked}
 use Rattle.rig.specs.Links.{Heard, Takes, heard_from}
 use Rattle.rig.specs.Links.Heard.{Datagram, Idle, Closed, Failed}
 use Rattle.rig.specs.declared.link.Event.{Event}
@@ -22,11 +22,9 @@ use Rattle.nfs_server.specs.declared.turning.Turn.{Turn}
 use Rattle.nfs_server.specs.declared.turning.Turn.TheVariants as turn
 use Rattle.nfs_server.specs.declared.turning.Ended.TheVariants as ended
 use Rattle.nfs_server.proofs.Accounts.{grew_none, grew_both, history-append}
+use Rattle.nfs_server.proofs.Counts.{rose_earlier}
 use Rattle.nfs_server.proofs.Lists.{hears_one, leaves_none, leaves_all, mixes_first, mixes_second}
 use Rattle.nfs_server.proofs.Workers.{sends_nothing, works_nothing, works_both, owned-append, all-append}
-
-rose_earlier : (n a b c : ℕ) → a ≤ b → RoseBy n b c → RoseBy n a c
-rose_earlier n a b c le rose = omega (arith, le, rose)
 
 -- nothing is offered, whatever was heard
 pub works_silent : (volumes number : ℕ) (a b : Worker) (heard : Heard) → Takes a.left heard b.left → Sends a b [] [] → Works volumes number a b (heard ∷ []) [] []
@@ -193,9 +191,9 @@ closed_says turn.Halted own replies before now h = absurd h
 not_halted : (heard : Heard) (own : List Own) (replies : List (Address × List ℕ)) (before now : ℕ) → Says 1 turn.Halted heard own replies before now → ⊥
 not_halted heard own replies before now h = h
 
-module _ {R L : Type 0} {tells : Type 0} {contents : R → Devices} {faults moment : R → ℕ} {since : R → ℕ → Devices → Type 0} (clocked : IsClocked tells contents moment since) (link_of : L → Worker) where
+module _ {R L : Type 0} {tells : Type 0} {image : R → Image} {faults moment : R → ℕ} {since : R → ℕ → Image → Type 0} (clocked : IsClocked tells image moment since) (link_of : L → Worker) where
   -- no turn was taken yet
-  pub turns_none : (rig : R) (link : L) (pass : ServerPass) → TurnsTaken (Grew tells contents faults moment since) link_of rig rig link link pass pass 0
+  pub turns_none : (rig : R) (link : L) (pass : ServerPass) → TurnsTaken (Grew tells image faults moment since) link_of rig rig link link pass pass 0
   turns_none rig link pass = record {
     heard = [];
     holds = [];
@@ -208,7 +206,7 @@ module _ {R L : Type 0} {tells : Type 0} {contents : R → Devices} {faults mome
   }
 
   -- no more were received than turns were taken
-  pub turns_within : (rig rig' : R) (link link' : L) (pass pass' : ServerPass) (turns : ℕ) → TurnsTaken (Grew tells contents faults moment since) link_of rig rig' link link' pass pass' turns → pass'.numbers.received ≤ pass.numbers.received + turns
+  pub turns_within : (rig rig' : R) (link link' : L) (pass pass' : ServerPass) (turns : ℕ) → TurnsTaken (Grew tells image faults moment since) link_of rig rig' link link' pass pass' turns → pass'.numbers.received ≤ pass.numbers.received + turns
   turns_within rig rig' link link' pass pass' turns p =
       let within = datagrams-within p.heard in
       let all = p.spent.all in
@@ -216,9 +214,9 @@ module _ {R L : Type 0} {tells : Type 0} {contents : R → Devices} {faults mome
       omega (arith, within, all, received)
 
   module _ {C : Type 0} (last : C → Option ℕ) (answers : C → ℕ) (rig rig' rig'' : R) (link link' link'' : L) (clock clock' : C) (pass pass' pass'' : ServerPass) (turns : ℕ)
-      (p : TurnsTaken (Grew tells contents faults moment since) link_of rig rig' link link' pass pass' turns) (result : Turn)
-      (q : Turned (Grew tells contents faults moment since) link_of last answers rig' rig'' link' link'' clock clock' pass' pass'' result) where
-    holds_both : Grew tells contents faults moment since rig rig'' (p.holds ++ q.holds)
+      (p : TurnsTaken (Grew tells image faults moment since) link_of rig rig' link link' pass pass' turns) (result : Turn)
+      (q : Turned (Grew tells image faults moment since) link_of last answers rig' rig'' link' link'' clock clock' pass' pass'' result) where
+    holds_both : Grew tells image faults moment since rig rig'' (p.holds ++ q.holds)
     holds_both = grew_both clocked rig rig' rig'' p.holds q.holds p.grows q.grows
 
     works_more : Works 1 pass.number (link_of link) (link_of link'') (p.heard ++ q.heard ∷ []) (owned 0 (history (p.holds ++ q.holds))) (p.replies ++ q.replies)
@@ -230,7 +228,7 @@ module _ {R L : Type 0} {tells : Type 0} {contents : R → Devices} {faults mome
         (works_both 1 pass.number (link_of link) (link_of link') (link_of link'') p.heard (q.heard ∷ []) (owned 0 (history p.holds)) (owned 0 (history q.holds)) p.replies q.replies p.works later)
 
     -- a turn more, which did not close the link
-    pub turns_more : result ≢ turn.Closed → TurnsTaken (Grew tells contents faults moment since) link_of rig rig'' link link'' pass pass'' (turns + 1)
+    pub turns_more : result ≢ turn.Closed → TurnsTaken (Grew tells image faults moment since) link_of rig rig'' link link'' pass pass'' (turns + 1)
     turns_more still = record {
       heard = p.heard ++ q.heard ∷ [];
       holds = p.holds ++ q.holds;
@@ -250,7 +248,7 @@ module _ {R L : Type 0} {tells : Type 0} {contents : R → Devices} {faults mome
     }
 
     -- the turn that closed the link
-    pub worked_closed : (most : ℕ) → turns < most → result ≡ turn.Closed → Worked (Grew tells contents faults moment since) link_of rig rig'' link link'' pass pass'' ended.Closed most
+    pub worked_closed : (most : ℕ) → turns < most → result ≡ turn.Closed → Worked (Grew tells image faults moment since) link_of rig rig'' link link'' pass pass'' ended.Closed most
     worked_closed most fewer is =
         let closed : q.heard ≡ Closed = says_closed result q.heard (owned 0 (history q.holds)) q.replies (link_of link').faults (link_of link'').faults q.says is in
         record {
@@ -270,7 +268,7 @@ module _ {R L : Type 0} {tells : Type 0} {contents : R → Devices} {faults mome
         }
 
   -- all turns were taken
-  pub worked_spent : (rig rig' : R) (link link' : L) (pass pass' : ServerPass) (turns : ℕ) → TurnsTaken (Grew tells contents faults moment since) link_of rig rig' link link' pass pass' turns → Worked (Grew tells contents faults moment since) link_of rig rig' link link' pass pass' ended.Spent turns
+  pub worked_spent : (rig rig' : R) (link link' : L) (pass pass' : ServerPass) (turns : ℕ) → TurnsTaken (Grew tells image faults moment since) link_of rig rig' link link' pass pass' turns → Worked (Grew tells image faults moment since) link_of rig rig' link link' pass pass' ended.Spent turns
   worked_spent rig rig' link link' pass pass' turns p = record {
     heard = p.heard;
     holds = p.holds;

@@ -1,15 +1,16 @@
 -- The account of a worker, over one run after another.
-use Rattle.std.proofs.Common.{arith, ◌≡◌, ℕ, ◌+◌, ◌-◌, ◌≤◌, List, [], ◌∷◌, ◌++◌, length, refl, sym, ap, ◌∙◌, length-append, append_assoc}
+use Rattle.std.proofs.Common.{arith, ◌≡◌, ℕ, ◌≤◌, List, [], ◌∷◌, ◌++◌, length, refl, sym, ap, ◌∙◌, length-append, append_assoc}
 use Rattle.std.specs.Option.{option_map}
 use Rattle.std.specs.List.{flat_map, AllByRecursion}
 use Rattle.std.proofs.lemmas.List.Elements.{filter_map-append}
 use Rattle.files_model.specs.declared.address.Address.{Address}
 use Rattle.files_model.specs.History.{Event}
-use Rattle.rig.specs.Counts.{RoseBy}
+use Rattle.stable.specs.Counts.{RoseBy}
 use Rattle.rig.specs.Links.{Heard, gains}
 use Rattle.nfs_server.specs.Worker.{worker_at, Worker, Own, owned, Sends, Works, request_in, outside_in, requests_of, replies_of}
 use Rattle.nfs_server.specs.Worker.LeavesOut.{none, keep, leave}
 use Rattle.nfs_server.specs.Worker.Mixes.{neither}
+use Rattle.nfs_server.proofs.Counts.{rose_both}
 use Rattle.nfs_server.proofs.Lists.{leaves_both, leaves-length, mixes_both, hears_both, took_none, took_both}
 
 flat_map-append : {A B : Type 0} (f : A → List B) (xs ys : List A) → flat_map f (xs ++ ys) ≡ flat_map f xs ++ flat_map f ys
@@ -24,9 +25,6 @@ pub owned-append : (volume : ℕ) (xs ys : List Event) → owned volume (xs ++ y
 owned-append volume [] ys = refl
 owned-append volume (x ∷ xs) ys = ap (λ (own : List Own). record { volume = volume; event = x } ∷ own) (owned-append volume xs ys)
 
-unsent_both : (m n r s f g h : ℕ) → r ≤ m → s ≤ n → RoseBy (m - r) f g → RoseBy (n - s) g h → RoseBy (m + n - (r + s)) f h
-unsent_both m n r s f g h few few' p q = omega arith
-
 pub sends_both : (a b c : Worker) (os os' rs rs' : List (Address × List ℕ)) → Sends a b os rs → Sends b c os' rs' → Sends a c (os ++ os') (rs ++ rs')
 sends_both a b c os os' rs rs' p q = record {
   took = q.took ∙ ap (option_map (λ before. before ++ rs')) p.took ∙ took_both a.sent rs rs';
@@ -34,7 +32,7 @@ sends_both a b c os os' rs rs' p q = record {
   unsent =
       let few = leaves-length rs os p.answered in
       let few' = leaves-length rs' os' q.answered in
-      rw (length-append os os', length-append rs rs') (unsent_both (length os) (length os') (length rs) (length rs') a.faults b.faults c.faults few few' p.unsent q.unsent);
+      rw (length-append os os', length-append rs rs') (rose_both (length os) (length os') (length rs) (length rs') a.faults b.faults c.faults few few' p.unsent q.unsent);
 }
 
 pub works_both : (volumes number : ℕ) (a b c : Worker) (heard heard' : List Heard) (own own' : List Own) (rs rs' : List (Address × List ℕ))

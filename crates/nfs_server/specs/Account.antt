@@ -4,10 +4,9 @@ use Rattle.std.specs.List.{flat_map}
 use Rattle.files_model.specs.Files.{Files}
 use Rattle.files_model.specs.Torn.{Torn}
 use Rattle.files_model.specs.History.{Event, after, IsLegal, failures, calls_of, time_of}
-use Rattle.rig.specs.Counts.{RoseBy}
-use Rattle.rig.specs.Devices.{Devices}
-use Rattle.rig.specs.Moments.{LeavesOnly}
-use Rattle.v7_map.specs.Image.{Image}
+use Rattle.stable.specs.Counts.{RoseBy}
+use Rattle.stable.specs.Moments.{LeavesOnly}
+use Rattle.stable.specs.Store.{Image}
 use Rattle.v7_map.specs.Frame.{frame}
 use Rattle.v7_map.specs.View.{view}
 use Rattle.v7_map.specs.Weak.{IsWeak, IsStrong}
@@ -38,10 +37,10 @@ pub record IsRecovered (files : Files) (holds : List Hold) (image : Image) : Typ
   pub stands : StandsFor files holds (view image)
 
 -- A crash since the mark of a hold leaves the files after that hold at least: each later hold is there, absent, or torn as the next one.
-abbrev pub Lasts : (ℕ → Devices → Type 0) → Files → List Hold → Type 0
+abbrev pub Lasts : (ℕ → Image → Type 0) → Files → List Hold → Type 0
 Lasts since files [] = Unit {0}
 Lasts since files (hold ∷ holds) =
-    ((d : Devices) → since hold.mark d → IsRecovered (after files hold.events) holds d.disk) × Lasts since (after files hold.events) holds
+    ((d : Image) → since hold.mark d → IsRecovered (after files hold.events) holds d) × Lasts since (after files hold.events) holds
 
 -- the marks lie in order between two moments
 abbrev pub MarksWithin : ℕ → ℕ → List Hold → Type 0
@@ -54,14 +53,14 @@ pub record HasGrown (files : Files) (image : Image) (events : List Event) : Type
   pub view_is : view image ≡ after files events
   pub strong : IsStrong (frame image)
 
--- A rig has gone on by these holds, from the view that was found, where there was nothing to mend.
-pub record Grew {R : Type 0} (tells : Type 0) (contents : R → Devices) (faults moment : R → ℕ) (since : R → ℕ → Devices → Type 0) (old new : R) (holds : List Hold) : Type 0 where
+-- What a volume stands on has gone on by these holds, from the view that was found, where there was nothing to mend.
+pub record Grew {R : Type 0} (tells : Type 0) (image : R → Image) (faults moment : R → ℕ) (since : R → ℕ → Image → Type 0) (old new : R) (holds : List Hold) : Type 0 where
   -- the history is legal, and the rig has the view after it
-  pub grown : tells → IsStrong (frame (contents old).disk) → HasGrown (view (contents old).disk) (contents new).disk (history holds)
+  pub grown : tells → IsStrong (frame (image old)) → HasGrown (view (image old)) (image new) (history holds)
   -- no more events failed than the count of faults rose by
   pub io : RoseBy (failures (history holds)) (faults old) (faults new)
   pub marked : MarksWithin (moment old) (moment new) holds
   -- a crash at any moment since the start leaves the files after the first of these holds, the next one torn or not
-  pub crash : LeavesOnly moment since old new (λ d. IsStrong (frame (contents old).disk) → IsRecovered (view (contents old).disk) holds d.disk)
+  pub crash : LeavesOnly moment since old new (λ d. IsStrong (frame (image old)) → IsRecovered (view (image old)) holds d)
   -- and one since a hold's mark has that hold
-  pub lasts : tells → IsStrong (frame (contents old).disk) → Lasts (since new) (view (contents old).disk) holds
+  pub lasts : tells → IsStrong (frame (image old)) → Lasts (since new) (view (image old)) holds

@@ -1,9 +1,7 @@
 pub mod Account
-pub mod Applied
-pub mod Found
+pub mod DiskLaws
+pub mod Disks
 pub mod Lines
-pub mod Prepares
-pub mod Puts
 pub mod Run
 pub mod Served
 pub mod Turns

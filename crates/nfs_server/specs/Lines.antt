@@ -2,7 +2,7 @@
 use Rattle.std.specs.Prelude.{◌≡◌, ℕ, ◌-◌, List, ◌++◌, length, map, Option, nat_le, if◌then◌else◌, ◌&&◌, codes}
 use Rattle.std.specs.Option.{option_map}
 use Rattle.std.specs.Fmt.{decimal}
-use Rattle.rig.specs.Counts.{RoseBy}
+use Rattle.stable.specs.Counts.{RoseBy}
 use Rattle.nfs_server.specs.Worker.{LeavesOut}
 
 -- These lines were to be said. Those that are missing are no more than the failures.

@@ -1,16 +1,14 @@
 -- What a run of the server does (docs/CALLS.md, "Lines and statuses").
-use Rattle.std.specs.Prelude.{◌≡◌, ◌⊎◌, ℕ, ◌+◌, ◌-◌, ◌≤◌, true, false, List, [], ◌∷◌, ◌++◌, length, codes, Option, Some, None, Result, Ok, Err}
+use Rattle.std.specs.Prelude.{◌≡◌, ◌≢◌, ◌⊎◌, ℕ, ◌+◌, ◌-◌, ◌≤◌, true, false, List, [], ◌∷◌, ◌++◌, length, codes, Option, Some, None, Result, Ok, Err}
 use Rattle.std.specs.List.{flat_map, AllByRecursion}
 use Rattle.std.specs.Option.{option_map}
-use Rattle.rig.specs.Counts.{Rose}
-use Rattle.rig.specs.Devices.{Devices}
+use Rattle.stable.specs.Counts.{Rose}
 use Rattle.rig.specs.Hosts.{SameLoans}
 use Rattle.rig.specs.declared.host.HostFault.{HostFault}
 use Rattle.rig.specs.declared.host.HostFault.TheVariants as host_fault
 use Rattle.rig.specs.declared.host.Post.{Post}
 use Rattle.rig.specs.Links.{gains}
-use Rattle.v7_layout.specs.Numbers.{part}
-use Rattle.v7_map.specs.Image.{Image, sector_at}
+use Rattle.stable.specs.Store.{Image}
 use Rattle.v7_map.specs.Frame.{frame}
 use Rattle.v7_map.specs.Damage.{Sizes, passes}
 use Rattle.nfs_server.specs.Account.{Hold, history}
@@ -18,20 +16,17 @@ use Rattle.nfs_server.specs.Worker.{Worker, Own, owned, Works}
 use Rattle.nfs_server.specs.Turns.{Did, EndsBy, datagrams}
 use Rattle.nfs_server.specs.Words.{Asked, asked_by}
 use Rattle.nfs_server.specs.Lines.{Said, usage_line, opened_line, stopped_line, numbers_line, no_disk_line, no_port_line}
-use Rattle.nfs_server.specs.declared.opening.OpenFault.{OpenFault}
-use Rattle.nfs_server.specs.declared.opening.OpenFault.TheVariants as open_fault
+use Rattle.volume.specs.declared.fault.OpenFault.{OpenFault}
+use Rattle.volume.specs.declared.fault.OpenFault.TheVariants as open_fault
+use Rattle.volume.specs.Opens.{name_in}
 use Rattle.nfs_server.specs.declared.turning.Ended.{Ended}
 use Rattle.nfs_server.specs.declared.turning.Ended.TheVariants as ended
 
 -- ---- an opening
 
--- the name of the volume, bytes 434 to 439 of its super-block
-abbrev pub name_of : Image → List ℕ
-name_of image = part (sector_at image 1) 434 6
-
 -- a volume has sizes that can be, which is the first test of damage; an image of fewer than two sectors has none
 abbrev pub Opens : Image → Result (List ℕ) OpenFault → Type 0
-Opens image (Ok name) = (passes (frame image) Sizes ≡ true) × (name ≡ name_of image)
+Opens image (Ok name) = (passes (frame image) Sizes ≡ true) × (name ≡ name_in image)
 Opens image (Err open_fault.Sizes) = passes (frame image) Sizes ≡ false
 Opens image (Err open_fault.Failed) = Unit {0}
 
@@ -132,6 +127,14 @@ FoundAs (NoVolume fault) image = Opens image (Err fault)
 FoundAs (NoPost name fault) image = Opens image (Ok name)
 FoundAs (Ran name way did) image = Opens image (Ok name)
 
+-- a volume of that name was opened
+abbrev pub IsNamed : List ℕ → Course → Type 0
+IsNamed name Usage = ⊥
+IsNamed name (NoRig disk fault) = ⊥
+IsNamed name (NoVolume fault) = ⊥
+IsNamed name (NoPost found fault) = found ≡ name
+IsNamed name (Ran found way did) = found ≡ name
+
 -- ---- what was lent
 
 -- The things that a host gave since, in order, and those that came back to it.
@@ -192,8 +195,28 @@ pub record ServedPost {S R P : Type 0} (grew : R → R → List Hold → Type 0)
   pub status : result ≡ end_status way
   pub said : Said lines say_faults old new (closing_lines way (datagrams did.heard) (length did.replies))
 
+-- What a run over an open volume of that name did; the posts that it asked for came back.
+pub record ServedOpen {S R P : Type 0} (grew : R → R → List Hold → Type 0) (posts_left : S → Option (List P)) (posts_back : S → Option (List (ℕ × P))) (seen : P → Worker)
+    (host_faults : S → ℕ) (lines : S → Option (List (List ℕ))) (say_faults : S → ℕ) (old new : S) (rig rig' : R) (name : List ℕ) (result turns : ℕ) : Type 0 where
+  pub course : Course
+  pub holds : List Hold
+  pub posts : List P
+  pub backs : List (ℕ × P)
+  pub named : IsNamed name course
+  pub loan : Loan posts_left posts_back old new posts backs
+  pub grows : grew rig rig' holds
+  pub workers : Workers 1 seen 0 posts backs (dids_of course)
+  pub shared : OfWorkers (holds ∷ []) (dids_of course)
+  pub ends : EndsAs turns course
+  pub had_rig : rigs_in course ≡ 1
+  pub status : result ≡ status_of course
+  pub said : Said lines say_faults old new (lines_of course)
+  pub device : result ≢ 74
+  pub host : result ≡ 66 → Rose (host_faults old) (host_faults new)
+  pub later : host_faults old ≤ host_faults new
+
 -- What a run over one rig did; the posts that it asked for came back.
-pub record ServedVolume {S R P : Type 0} (tells : Type 0) (contents : R → Devices) (grew : R → R → List Hold → Type 0) (faults : R → ℕ) (posts_left : S → Option (List P)) (posts_back : S → Option (List (ℕ × P))) (seen : P → Worker)
+pub record ServedVolume {S R P : Type 0} (tells : Type 0) (image : R → Image) (grew : R → R → List Hold → Type 0) (faults : R → ℕ) (posts_left : S → Option (List P)) (posts_back : S → Option (List (ℕ × P))) (seen : P → Worker)
     (host_faults : S → ℕ) (lines : S → Option (List (List ℕ))) (say_faults : S → ℕ) (old new : S) (rig rig' : R) (result turns : ℕ) : Type 0 where
   pub course : Course
   pub holds : List Hold
@@ -204,7 +227,7 @@ pub record ServedVolume {S R P : Type 0} (tells : Type 0) (contents : R → Devi
   pub workers : Workers 1 seen 0 posts backs (dids_of course)
   pub shared : OfWorkers (holds ∷ []) (dids_of course)
   pub ends : EndsAs turns course
-  pub opened : tells → FoundAs course (contents rig).disk
+  pub opened : tells → FoundAs course (image rig)
   pub had_rig : rigs_in course ≡ 1
   pub status : result ≡ status_of course
   pub said : Said lines say_faults old new (lines_of course)
@@ -213,7 +236,7 @@ pub record ServedVolume {S R P : Type 0} (tells : Type 0) (contents : R → Devi
   pub later : host_faults old ≤ host_faults new
 
 -- What a run did, over all rigs and posts that the host gave.
-pub record Outcome {S R P : Type 0} (tells : Type 0) (contents : R → Devices) (grew : R → R → List Hold → Type 0) (faults : R → ℕ) (rigs_left : S → Option (List R)) (rigs_back : S → Option (List (ℕ × R)))
+pub record Outcome {S R P : Type 0} (tells : Type 0) (image : R → Image) (grew : R → R → List Hold → Type 0) (faults : R → ℕ) (rigs_left : S → Option (List R)) (rigs_back : S → Option (List (ℕ × R)))
     (posts_left : S → Option (List P)) (posts_back : S → Option (List (ℕ × P))) (seen : P → Worker) (host_faults : S → ℕ) (lines : S → Option (List (List ℕ))) (say_faults : S → ℕ) (words : List (List ℕ)) (old new : S) (result : ℕ) : Type 0 where
   pub course : Course
   pub rigs : List R
@@ -230,7 +253,7 @@ pub record Outcome {S R P : Type 0} (tells : Type 0) (contents : R → Devices) 
   pub shared : OfWorkers volumes (dids_of course)
   -- the status, the lines and their causes
   pub understood : Understood words course
-  pub opened : tells → AllByRecursion (λ (rig : R). FoundAs course (contents rig).disk) rigs
+  pub opened : tells → AllByRecursion (λ (rig : R). FoundAs course (image rig)) rigs
   pub given : length rigs ≡ rigs_in course
   pub status : result ≡ status_of course
   pub said : Said lines say_faults old new (lines_of course)

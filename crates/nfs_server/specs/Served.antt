@@ -2,7 +2,7 @@
 use Rattle.std.specs.Prelude.{◌≡◌, ℕ, ◌≤◌, List, [], ◌∷◌, Option}
 use Rattle.files_model.specs.declared.address.Address.{Address}
 use Rattle.files_model.specs.History.{Event, Item, items_of, time_of}
-use Rattle.rig.specs.Counts.{Rose}
+use Rattle.stable.specs.Counts.{Rose}
 use Rattle.rig.specs.Links.{gains}
 use Rattle.nfs_server.specs.Account.{Hold}
 use Rattle.nfs_server.specs.Worker.{worker_at, replies_of}

@@ -3,7 +3,7 @@ use Rattle.std.specs.Prelude.{◌≡◌, ◌≢◌, ℕ, ◌+◌, ◌≤◌, Lis
 use Rattle.std.specs.List.{flat_map, filter_map, AllByRecursion}
 use Rattle.files_model.specs.declared.address.Address.{Address}
 use Rattle.files_model.specs.History.{time_of}
-use Rattle.rig.specs.Counts.{Rose, one_more}
+use Rattle.stable.specs.Counts.{Rose, one_more}
 use Rattle.rig.specs.Links.{Heard, Takes, gains}
 use Rattle.nfs2_wire.specs.Replies.{bytes_of}
 use Rattle.files_model.specs.declared.reply.Reply.TheVariants as reply
@@ -108,11 +108,10 @@ EventTurn event.Idle result = result ≡ turn.Idle
 EventTurn event.Closed result = result ≡ turn.Closed
 EventTurn event.Failed result = result ≡ turn.Dropped cause.ReceiveFailed
 
--- A handle that names no file of an open volume was answered, or dropped, in no hold.
+-- A handle that names no file of an open volume was answered, or the link failed, in no hold.
 abbrev pub AnswersStale : {L : Type 0} → (L → Worker) → L → L → Address → ℕ → Turn → Type 0
 AnswersStale link_of link link' from xid (turn.Answered n) = (n ≡ 1) × ((link_of link').sent ≡ gains (link_of link).sent (from, bytes_of xid (reply.Refused stat.Stale) 0)) × ((link_of link).faults ≤ (link_of link').faults)
 AnswersStale link_of link link' from xid (turn.Dropped cause.SendFailed) = ((link_of link').sent ≡ (link_of link).sent) × Rose (link_of link).faults (link_of link').faults
-AnswersStale link_of link link' from xid (turn.Dropped cause.NoMemory) = ((link_of link').sent ≡ (link_of link).sent) × ((link_of link').faults ≡ (link_of link).faults)
 AnswersStale link_of link link' from xid _ = ⊥
 
 -- A turn was taken. It asked the clock, took one event, and made at most one hold of the volume.

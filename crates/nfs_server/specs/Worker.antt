@@ -5,7 +5,7 @@ use Rattle.std.specs.Option.{option_map}
 use Rattle.files_model.specs.declared.address.Address.{Address}
 use Rattle.files_model.specs.History.{Event, Item, items_of, answers_of}
 use Rattle.files_model.specs.History.Event.{Done, Failed as Failing, Cut}
-use Rattle.rig.specs.Counts.{RoseBy}
+use Rattle.stable.specs.Counts.{RoseBy}
 use Rattle.rig.specs.Links.{Heard, Takes}
 use Rattle.rig.specs.Links.Heard.{Datagram, Idle, Closed, Failed}
 use Rattle.nfs2_wire.specs.Meaning.{Meaning, meaning}

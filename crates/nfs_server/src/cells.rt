@@ -1,9 +1,10 @@
 //! What the workers of a server share.
 use std::alloc::Global;
+use volume::Volume;
 
-/// The volumes that are served: one, on the disk of this rig.
+/// The volumes that are served: one, on this store.
 #[derive(Drop)]
-pub struct Cells<R> {
+pub struct Cells<S> {
     pub alloc: Global,
-    pub rig: R,
+    pub volume: Volume<S>,
 }

@@ -3,13 +3,15 @@ ghost use Rattle.std.specs.Prelude.{◌≡◌, true};
 ghost use Rattle.files_model.specs.Step.{has_row};
 ghost use Rattle.nfs_server.specs.Account.{Grew};
 ghost use Rattle.nfs_server.specs.Served.{Serves};
+ghost use Rattle.volume.specs.Mounted.{store_of};
 
 use crate::releasing::Ready;
-use crate::volume::{Outcome, apply};
 use files_model::{Call, Cred, Reply, Stat};
 use nfs2_wire::{Room, longest, write_reply};
-use rig::{Address, Rig};
+use rig::Address;
+use stable::Tended;
 use std::alloc::Global;
+use volume::{Outcome, Volume};
 
 /// What became of a call.
 #[derive(Drop)]
@@ -21,9 +23,9 @@ pub enum Served {
 }
 
 /// Serves one call on the volume for a worker, all at this second. The reply's room is reserved before the call is made.
-pub fn serve_call<R: Rig>(
+pub fn serve_call<S: Tended>(
     alloc: Global,
-    rig: &mut R,
+    volume: &mut Volume<S>,
     number: u32,
     xid: u32,
     from: Address,
@@ -32,13 +34,13 @@ pub fn serve_call<R: Rig>(
     now: u32,
 ) -> Served
     requires { has_row call.now ≡ true }
-    ensures { Serves (Grew R.tells R.contents R.faults R.moment R.left_since) rig.old rig.new (R.moment rig.new) number now
+    ensures { Serves (Grew S.tells S.image S.faults S.moment S.left_since) (store_of volume.old) (store_of volume.new) (S.moment (store_of volume.new)) number now
         (record { xid = xid; from = from; call = call.now; cred = cred.now }) result }
 {
     let Ok(room) = Room::new(alloc, longest(call)) else {
         return Served::NoMemory;
     };
-    match apply(alloc, rig, call, cred, now) {
+    match volume.apply(call, cred, now) {
         Outcome::Reply(reply) => Served::Ready(Ready {
             bytes: write_reply(room, xid, &reply, 0),
             to: from,

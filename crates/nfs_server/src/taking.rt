@@ -5,21 +5,19 @@ ghost use Rattle.rig.specs.Links.Heard.{Datagram as Told};
 ghost use Rattle.nfs_server.specs.Account.{Grew};
 ghost use Rattle.nfs_server.specs.Turns.{Turned, Answers, AnswersStale, answers_in, turn_of, EventTurn};
 ghost use Rattle.nfs_server.specs.Worker.{worker_of};
+ghost use Rattle.volume.specs.Mounted.{store_of};
 
 use crate::cells::Cells;
 use crate::pass::{Numbers, ServerPass};
 use crate::releasing::{Ready, Released, release};
 use crate::serving::{Served, serve_call};
 use crate::turning::{DropCause, Turn};
-use nfs2_wire::{Datagram, Room, read_datagram, stale_reply};
-use rig::{Address, Clock, Event, Link, Pauser, Post, Rig};
-use std::alloc::Global;
+use nfs2_wire::{Datagram, read_datagram, stale_reply};
+use rig::{Address, Clock, Event, Link, Pauser, Post};
+use stable::Tended;
 
 /// How many volumes are served.
 const VOLUMES: u32 = 1;
-
-/// The length of a reply that is a status alone, in bytes.
-const STATUS_BYTES: u32 = 28;
 
 // What the release of the turn's one reply makes of the turn.
 fn turn_of(released: Released) -> Turn
@@ -32,8 +30,8 @@ fn turn_of(released: Released) -> Turn
 }
 
 // Answers a datagram from an address.
-fn answer<R: Rig, L: Link>(
-    cells: &mut Cells<R>,
+fn answer<S: Tended, L: Link>(
+    cells: &mut Cells<S>,
     link: &mut L,
     number: u32,
     now: u32,
@@ -42,12 +40,12 @@ fn answer<R: Rig, L: Link>(
 ) -> Turn
     requires { length bytes.now ≤ 9216 }
     ensures left { L.left link.new ≡ L.left link.old }
-    ensures answered { Answers (Grew R.tells R.contents R.faults R.moment R.left_since) (worker_of L.left L.sent L.faults) cells.old.rig cells.new.rig link.old link.new number now (Told from bytes.now) result }
+    ensures answered { Answers (Grew S.tells S.image S.faults S.moment S.left_since) (worker_of L.left L.sent L.faults) (store_of cells.old.volume) (store_of cells.new.volume) link.old link.new number now (Told from bytes.now) result }
 {
     match read_datagram(cells.alloc, bytes, VOLUMES) {
         Err(_) => Turn::Dropped(DropCause::NoMemory),
         Ok(Datagram::NoMeaning) => Turn::Dropped(DropCause::NoMeaning),
-        Ok(Datagram::Stale { xid }) => answer_stale(cells.alloc, link, from, xid),
+        Ok(Datagram::Stale { xid }) => answer_stale(link, from, xid),
         Ok(
             Datagram::Asks {
                 xid,
@@ -57,7 +55,7 @@ fn answer<R: Rig, L: Link>(
             },
         ) => match serve_call(
             cells.alloc,
-            &mut cells.rig,
+            &mut cells.volume,
             number,
             xid,
             from,
@@ -72,18 +70,14 @@ fn answer<R: Rig, L: Link>(
 }
 
 // Answers a call whose handle names no file of an open volume.
-fn answer_stale<L: Link>(alloc: Global, link: &mut L, from: Address, xid: u32) -> Turn
+fn answer_stale<L: Link>(link: &mut L, from: Address, xid: u32) -> Turn
     ensures left { L.left link.new ≡ L.left link.old }
     ensures answered { AnswersStale (worker_of L.left L.sent L.faults) link.old link.new from xid result }
 {
-    let Ok(room) = Room::new(alloc, STATUS_BYTES) else {
-        return Turn::Dropped(DropCause::NoMemory);
-    };
-    let ready = Ready {
-        bytes: stale_reply(room, xid),
-        to: from,
-    };
-    turn_of(release(link, ready))
+    match link.send(&from, stale_reply(xid).bytes()) {
+        Ok(()) => Turn::Answered(1),
+        Err(_) => Turn::Dropped(DropCause::SendFailed),
+    }
 }
 
 // The numbers after a datagram of which the turn made this.
@@ -110,14 +104,14 @@ fn quiet(event: Event) -> Turn
 }
 
 /// Takes one turn: asks the clock, takes one event, and answers it where it is a datagram that means something.
-pub fn turn<R: Rig, L: Link, C: Clock, P: Pauser>(
-    cells: &mut Cells<R>,
+pub fn turn<S: Tended, L: Link, C: Clock, P: Pauser>(
+    cells: &mut Cells<S>,
     post: &mut Post<L, C, P>,
     pass: &mut ServerPass,
 ) -> Turn
     requires { pass.old.numbers.received < 2 ^ 48 }
-    ensures { Turned (Grew R.tells R.contents R.faults R.moment R.left_since) (worker_of L.left L.sent L.faults) C.last C.answers
-        cells.old.rig cells.new.rig post.old.link post.new.link post.old.clock post.new.clock pass.old pass.new result }
+    ensures { Turned (Grew S.tells S.image S.faults S.moment S.left_since) (worker_of L.left L.sent L.faults) C.last C.answers
+        (store_of cells.old.volume) (store_of cells.new.volume) post.old.link post.new.link post.old.clock post.new.clock pass.old pass.new result }
 {
     pass.second = post.clock.now();
     let event = post.link.recv(&mut pass.packet);

@@ -1,8 +1,10 @@
-//! Runs over memory: the worked WRITE, its refusals, its failures and crashes, and the ends of a run.
+//! Runs over memory: the worked WRITE, its refusals, its failures and crashes, what is read, and the ends of a run.
 
+mod calls;
 mod crashes;
+mod direct;
 mod outside;
 mod refusals;
 mod runs;
+mod test_volume;
 mod turns;
-mod volume;

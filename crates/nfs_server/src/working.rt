@@ -3,23 +3,25 @@ ghost use Rattle.std.specs.Prelude.{◌≡◌, ◌+◌, ◌<◌, ◌^◌};
 ghost use Rattle.nfs_server.specs.Account.{Grew};
 ghost use Rattle.nfs_server.specs.Turns.{Worked};
 ghost use Rattle.nfs_server.specs.Worker.{worker_of};
+ghost use Rattle.volume.specs.Mounted.{store_of};
 
 use crate::cells::Cells;
 use crate::pass::ServerPass;
 use crate::taking::turn;
 use crate::turning::{Ended, Turn};
-use rig::{Clock, Link, Pauser, Post, Rig};
+use rig::{Clock, Link, Pauser, Post};
+use stable::Tended;
 
 /// Takes turns, at most so many, until the link has ended.
-pub fn work<R: Rig, L: Link, C: Clock, P: Pauser>(
-    cells: &mut Cells<R>,
+pub fn work<S: Tended, L: Link, C: Clock, P: Pauser>(
+    cells: &mut Cells<S>,
     post: &mut Post<L, C, P>,
     pass: &mut ServerPass,
     turns: u64,
 ) -> Ended
     requires { pass.old.numbers.received + turns < 2 ^ 48 }
-    ensures { Worked (Grew R.tells R.contents R.faults R.moment R.left_since) (worker_of L.left L.sent L.faults)
-        cells.old.rig cells.new.rig post.old.link post.new.link pass.old pass.new result turns }
+    ensures { Worked (Grew S.tells S.image S.faults S.moment S.left_since) (worker_of L.left L.sent L.faults)
+        (store_of cells.old.volume) (store_of cells.new.volume) post.old.link post.new.link pass.old pass.new result turns }
 {
     for count in 0..turns {
         match turn(cells, post, pass) {

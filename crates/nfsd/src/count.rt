@@ -1,5 +1,5 @@
 ghost use Rattle.std.specs.Prelude.{◌≡◌, ◌≤◌, ◌↔◌, ℕ, IsOk};
-ghost use Rattle.rig.specs.Counts.{HasCause, one_more};
+ghost use Rattle.stable.specs.Counts.{HasCause, one_more};
 
 use rig::Failed;
 use std::io;

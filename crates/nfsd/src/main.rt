@@ -11,16 +11,13 @@ mod system_clock;
 mod tests;
 mod udp_link;
 
-use nfs_server::serve;
+use nfs_server::{USAGE, serve};
 use real_host::RealHost;
 use rig::Say;
 use std::io::ErrorKind;
 use std::process::ExitCode;
 use std::rt::Env;
 use std::{env, io};
-
-const USAGE: &str =
-    "usage: nfsd VOLUME.. [--workers N] [--turns T] [--port P] [--down] [--accept-loss]";
 
 // The words after the program's name. One that isn't UTF-8 is an error.
 fn words_of<T: Env + AllocGlobal>(system: &T) -> io::Result<Vec<String>> {

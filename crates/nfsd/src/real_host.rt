@@ -1,5 +1,5 @@
 ghost use Rattle.std.specs.Prelude.{◌≡◌, ◌-◌, ◌≤◌, ℕ, None};
-ghost use Rattle.rig.specs.Counts.{one_more};
+ghost use Rattle.stable.specs.Counts.{one_more};
 ghost use Rattle.rig.specs.Hosts.{SameLoans, SameLines, TakesBack, HostCause};
 
 use crate::count::{count, counted};

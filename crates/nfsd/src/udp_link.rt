@@ -1,4 +1,4 @@
-ghost use Rattle.std.specs.Prelude.{◌≡◌, ◌≤◌, None};
+ghost use Rattle.std.specs.Prelude.{◌≡◌, ◌≤◌, None, IfOk};
 
 use crate::address::{address_of, socket_address_of};
 use crate::count::{count, counted};
@@ -19,15 +19,19 @@ pub struct UdpLink {
 }
 
 impl UdpLink {
-    /// A link at that port of each IPv4 address of this machine.
-    pub fn bind(net: &impl Net, port: u16) -> io::Result<UdpLink> {
+    /// A link at that port of each IPv4 address of this machine. No fault is counted yet.
+    pub fn bind(net: &impl Net, port: u16) -> io::Result<UdpLink>
+        ensures { IfOk result (λ link. link.faults ≡ 0) }
+    {
         let socket = UdpSocket::bind(net, SocketAddr::from((Ipv4Addr::UNSPECIFIED, port)))?;
         socket.set_read_timeout(Some(Duration::from_millis(WAIT_MILLIS)))?;
         Ok(UdpLink { socket, faults: 0 })
     }
 
-    /// Another link on the same socket. A datagram reaches one of the two.
-    pub fn share(&self) -> io::Result<UdpLink> {
+    /// Another link on the same socket, with no fault counted yet. A datagram reaches one of the two.
+    pub fn share(&self) -> io::Result<UdpLink>
+        ensures { IfOk result (λ link. link.faults ≡ 0) }
+    {
         let socket = self.socket.try_clone()?;
         Ok(UdpLink { socket, faults: 0 })
     }

@@ -1,6 +1,6 @@
 -- What a clock counts.
 use Rattle.std.specs.Prelude.{ℕ, Option, Some, None, nat_eq, if◌then◌else◌}
-use Rattle.rig.specs.Counts.{one_more}
+use Rattle.stable.specs.Counts.{one_more}
 
 -- the count of changes after an answer: one more exactly where it differs from the one before
 abbrev pub changes_after : Option ℕ → ℕ → ℕ → ℕ

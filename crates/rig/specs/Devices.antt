@@ -1,7 +1,7 @@
 -- What a disk and its board hold, and what a call on them may leave (docs/DEVICES.md).
 use Rattle.std.specs.Prelude.{◌≡◌, ◌⊎◌, ◌+◌, ◌<◌, ◌≤◌, ◌^◌, ℕ, Bool, true, List, [], length, get_or, set, Option, Some}
-use Rattle.rig.specs.Counts.{one_more}
-use Rattle.rig.specs.declared.battery.Battery.{Battery}
+use Rattle.stable.specs.Counts.{one_more}
+use Rattle.stable.specs.declared.battery.Battery.{Battery}
 
 -- the sectors, the board's words and buffers, and whether the board kept its memory
 pub record Devices : Type 0 where

@@ -1,7 +1,7 @@
 -- What a host gave, and what came back.
 use Rattle.std.specs.Prelude.{◌≡◌, ℕ, ◌-◌, ◌<◌, ◌≤◌, List, ◌∷◌, Option, Result, IsErrOf}
 use Rattle.std.specs.Option.{option_map}
-use Rattle.rig.specs.Counts.{Rose, one_more}
+use Rattle.stable.specs.Counts.{Rose, one_more}
 use Rattle.rig.specs.Links.{gains}
 use Rattle.rig.specs.declared.host.HostFault.{HostFault}
 use Rattle.rig.specs.declared.host.HostFault.TheVariants as host_fault

@@ -1,12 +1,4 @@
 pub mod Clocks
-pub mod Counts
 pub mod Devices
-pub mod Histories
 pub mod Hosts
-pub mod Images
 pub mod Links
-pub mod MemoryClocks
-pub mod MemoryLinks
-pub mod MemoryRigs
-pub mod Moments
-pub mod Troubles

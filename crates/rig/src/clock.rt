@@ -1,5 +1,5 @@
 ghost use Rattle.std.specs.Prelude.{◌≡◌, ℕ, Option, Some};
-ghost use Rattle.rig.specs.Counts.{one_more};
+ghost use Rattle.stable.specs.Counts.{one_more};
 ghost use Rattle.rig.specs.Clocks.{changes_after};
 
 /// Seconds. What it answers is a free input, and may go back.

@@ -1,21 +1,16 @@
 //! The outside of the server: disk, board and battery, links, clocks, lines, and the host that makes them.
 #![tactic(auto)]
 
-mod battery;
 mod clock;
-mod failure;
 mod host;
 mod link;
-pub mod memory;
 mod packet;
 mod pauser;
 mod rig;
 mod say;
 mod steered;
 
-pub use battery::Battery;
 pub use clock::Clock;
-pub use failure::{Failed, NoMemory};
 pub use files_model::Address;
 pub use host::{Host, HostFault, Post};
 pub use link::{Event, Link};
@@ -23,4 +18,5 @@ pub use packet::{PACKET_BYTES, Packet};
 pub use pauser::{Pauser, Point};
 pub use rig::Rig;
 pub use say::Say;
+pub use stable::{Battery, Failed, NoMemory};
 pub use steered::SteeredRig;

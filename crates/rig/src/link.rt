@@ -1,5 +1,5 @@
 ghost use Rattle.std.specs.Prelude.{◌≡◌, ◌≤◌, ℕ, List, Option, OnOk, OnErr};
-ghost use Rattle.rig.specs.Counts.{Rose, HasCause};
+ghost use Rattle.stable.specs.Counts.{Rose, HasCause};
 ghost use Rattle.rig.specs.Links.{Heard, heard_from, Takes, gains};
 ghost use Rattle.files_model.specs.declared.address.Address.{Address};
 

@@ -1,7 +1,7 @@
 ghost use Rattle.std.specs.Prelude.{◌≡◌, ◌<◌, ◌≤◌, ℕ, Bool, true, [], get_or, OnOk, OnErr, IfOk};
-ghost use Rattle.rig.specs.Counts.{HasCause, one_more};
+ghost use Rattle.stable.specs.Counts.{HasCause, one_more};
 ghost use Rattle.rig.specs.Devices.{Devices, Sizes, Readings, HasShape, IsBoard, IsRead, with_sector, with_word, with_buffer, with_kept, Unchanged, SectorOldOrNew, WordOldOrNew, BufferAny, KeptOldOrTrue};
-ghost use Rattle.rig.specs.Moments.{IsClocked, LeavesOnly};
+ghost use Rattle.stable.specs.Moments.{IsClocked, LeavesOnly};
 
 use crate::{Battery, Failed};
 

@@ -1,5 +1,5 @@
 ghost use Rattle.std.specs.Prelude.{◌≡◌, ℕ, List, Option, OnOk, OnErr};
-ghost use Rattle.rig.specs.Counts.{HasCause};
+ghost use Rattle.stable.specs.Counts.{HasCause};
 ghost use Rattle.rig.specs.Links.{gains};
 
 use crate::Failed;

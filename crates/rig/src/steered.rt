@@ -1,6 +1,6 @@
 ghost use Rattle.std.specs.Prelude.{◌≡◌};
 ghost use Rattle.rig.specs.Devices.{Unchanged};
-ghost use Rattle.rig.specs.Moments.{LeavesOnly};
+ghost use Rattle.stable.specs.Moments.{LeavesOnly};
 
 use crate::{Battery, Rig};
 

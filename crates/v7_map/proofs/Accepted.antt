@@ -1,6 +1,6 @@
 -- What an accepted WRITE tells of its file.
-use Rattle.std.proofs.Common.{◌≡◌, ℕ, ◌+◌, ◌<◌, ◌≤◌, Bool, true, false, not, List, [], ◌∷◌, length, refl, Option, Some, None, is_some}
-use Rattle.std.proofs.lemmas.Bool.{leb-true, ltb-true}
+use Rattle.std.proofs.Common.{◌≡◌, ℕ, ◌+◌, ◌≤◌, Bool, true, false, not, List, [], ◌∷◌, length, refl, Option, Some, None, is_some}
+use Rattle.std.proofs.lemmas.Bool.{leb-true}
 use Rattle.std.specs.List.{list_all}
 use Rattle.std.specs.FinMap.{get}
 use Rattle.files_model.specs.declared.attributes.FileId.{FileId}
@@ -10,21 +10,17 @@ use Rattle.files_model.specs.declared.credential.Cred.{Cred}
 use Rattle.files_model.specs.declared.permission.Want.TheVariants as want
 use Rattle.files_model.specs.declared.reply.Stat.{Stat}
 use Rattle.files_model.specs.declared.reply.Stat.TheVariants as stat
-use Rattle.files_model.specs.Files.{Node, Files}
+use Rattle.files_model.specs.Files.{Node, Files, Sectors}
 use Rattle.files_model.specs.Permission.{allows, is_directory, is_link}
-use Rattle.files_model.specs.Step.{touched, write_refusal, is_in_place, is_inside, first_of, attr_of}
+use Rattle.files_model.specs.Step.{touched, write_refusal, is_inside, first_of, attr_of}
+use Rattle.files_model.proofs.Clips.{AllIn}
 use Rattle.v7_map.proofs.Frames.{and_left, and_right}
-
--- each of these sectors can be written in place
-abbrev pub AllInPlace : Node → List ℕ → Type 0
-AllInPlace n [] = Unit {0}
-AllInPlace n (k ∷ ks) = ((b : List ℕ) × (get n.sectors k ≡ Some b)) × (k < 10) × AllInPlace n ks
 
 pub record IsAccepted (files : Files) (n : Node) (offset : ℕ) (bytes : List ℕ) : Type 0 where
   pub writable : files.read_only ≡ false
   pub regular : n.kind ≡ Regular
   pub inside : offset + length bytes ≤ n.size
-  pub in_place : AllInPlace n (touched offset (length bytes))
+  pub there : AllIn n.sectors (touched offset (length bytes))
 
 -- the first test fails, and so do the others
 first_of-none : (b : Bool) (status : Stat) (es : List (Bool × Stat)) → first_of ((b, status) ∷ es) ≡ None → (b ≡ false) × (first_of es ≡ None)
@@ -44,11 +40,9 @@ is_some-is : (o : Option (List ℕ)) → is_some o ≡ true → (b : List ℕ) �
 is_some-is None e = absurd (cc)
 is_some-is (Some b) e = (b, refl)
 
-all_in_place : (n : Node) (ks : List ℕ) → list_all (is_in_place n) ks ≡ true → AllInPlace n ks
-all_in_place n [] e = tt
-all_in_place n (k ∷ ks) e =
-    let here : is_in_place n k ≡ true = and_left _ _ e in
-    (is_some-is (get n.sectors k) (and_left _ _ here), ltb-true k 10 (and_right _ _ here), all_in_place n ks (and_right _ _ e))
+all_in : (sectors : Sectors) (ks : List ℕ) → list_all (λ k. is_some (get sectors k)) ks ≡ true → AllIn sectors ks
+all_in sectors [] e = tt
+all_in sectors (k ∷ ks) e = (is_some-is (get sectors k) (and_left _ _ e), all_in sectors ks (and_right _ _ e))
 
 pub accepted-is : (files : Files) (file : FileId) (n : Node) (cred : Cred) (offset : ℕ) (bytes : List ℕ) → write_refusal files file n cred offset bytes ≡ None → IsAccepted files n offset bytes
 accepted-is files file n cred offset bytes none =
@@ -65,5 +59,5 @@ accepted-is files file n cred offset bytes none =
       writable = a.0;
       regular = regular_kind n.kind b.0 c.0;
       inside = leb-true _ _ (and_left _ _ inside);
-      in_place = all_in_place n (touched offset (length bytes)) (and_right _ _ inside);
+      there = all_in n.sectors (touched offset (length bytes)) (and_right _ _ inside);
     }

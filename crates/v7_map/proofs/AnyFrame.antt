@@ -3,7 +3,8 @@ use Rattle.std.proofs.Common.{◌≡◌, ◌≢◌, ℕ, ◌+◌, ◌-◌, ◌*�
 use Rattle.std.proofs.lemmas.Bool.{cases_lt, cases_Bool, leb-true, eqb-true, ne_eqb, le-ltb}
 use Rattle.v7_layout.specs.Numbers.{part, field}
 use Rattle.v7_layout.specs.Records.{inode_of}
-use Rattle.v7_map.specs.Image.{Image, sector_at, inode_at, is_inode, isize_of}
+use Rattle.stable.specs.Store.{Image}
+use Rattle.v7_map.specs.Image.{sector_at, inode_at, is_inode, isize_of}
 use Rattle.v7_map.specs.Frame.{IsFrame, CanHold, Head, Place, Body, Single, Double, head_of, place_of, address_of, frame}
 use Rattle.v7_map.proofs.Frames.{and_left, and_right, cond_same}
 

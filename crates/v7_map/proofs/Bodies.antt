@@ -7,7 +7,8 @@ use Rattle.files_model.specs.declared.attributes.Kind.TheVariants.{Regular}
 use Rattle.files_model.specs.Files.{Node, sectors_of, clipped, tabulated, IsBody}
 use Rattle.files_model.proofs.Maps.{get-tabulated, get-tabulated_above}
 use Rattle.files_model.proofs.Clips.{clipped_twice, length-clipped}
-use Rattle.v7_map.specs.Image.{Image, sector_at, IsImage}
+use Rattle.stable.specs.Store.{Image}
+use Rattle.v7_map.specs.Image.{sector_at, IsImage}
 use Rattle.v7_map.specs.Frame.{Frame, Body, is_directory, frame}
 use Rattle.v7_map.specs.Weak.{IsWeak}
 use Rattle.v7_map.specs.View.{view, body_of, body_at, held}

@@ -7,7 +7,8 @@ use Rattle.v7_layout.specs.Numbers.{part, field}
 use Rattle.v7_layout.specs.Records.{inode_of}
 use Rattle.files_model.specs.Files.{Sectors, sectors_of, clipped, tabulated}
 use Rattle.files_model.proofs.Maps.{tabulated_but_one, tabulated_same}
-use Rattle.v7_map.specs.Image.{Image, sector_at, isize_of, inode_at, inode_sector, inode_offset, is_read_only}
+use Rattle.stable.specs.Store.{Image}
+use Rattle.v7_map.specs.Image.{sector_at, isize_of, inode_at, inode_sector, inode_offset, is_read_only}
 use Rattle.v7_map.specs.Frame.{Place, Body, IsMap, head_of, is_directory, frame}
 use Rattle.v7_map.specs.Tree.{Tree, tree, is_named}
 use Rattle.files_model.specs.Step.{with_node}

@@ -7,11 +7,12 @@ use Rattle.files_model.specs.Files.{Node, Files, sectors_of, clipped}
 use Rattle.files_model.specs.Step.{with_node, with_sectors}
 use Rattle.files_model.proofs.Maps.{get-insert_same, inserted, get-insert_other}
 use Rattle.files_model.proofs.Bodies.{all_clipped, AllBelow}
-use Rattle.v7_map.specs.Image.{Image}
+use Rattle.stable.specs.Store.{Image}
 use Rattle.v7_map.specs.Frame.{Frame, Body, frame}
 use Rattle.v7_map.specs.Weak.{IsWeak}
 use Rattle.v7_map.specs.View.{view}
-use Rattle.v7_map.specs.Plan.{put_all, data_puts, AllHeld}
+use Rattle.stable.specs.Puts.{put_all}
+use Rattle.v7_map.specs.Plan.{data_puts, AllHeld}
 use Rattle.v7_map.proofs.Writes.{frame_after_data, view_after_data}
 
 -- the node set twice is the node set last

@@ -3,7 +3,8 @@ use Rattle.std.proofs.Common.{◌≡◌, ◌≢◌, ℕ, zero, suc, ◌+◌, ◌
 use Rattle.std.specs.List.{range_with_len}
 use Rattle.v7_layout.specs.Numbers.{part, field}
 use Rattle.files_model.specs.Files.{sectors_of}
-use Rattle.v7_map.specs.Image.{Image, sector_at, inode_at}
+use Rattle.stable.specs.Store.{Image}
+use Rattle.v7_map.specs.Image.{sector_at, inode_at}
 use Rattle.v7_map.specs.Frame.{Head, Place, Body, Single, Double, IsMap, address_of, slot_of, head_of, is_directory, frame, slot_in, slots_of}
 
 pub cond_same : {A : Type 0} (b : Bool) (x y z : A) → (b ≡ true → x ≡ y) → cond b x z ≡ cond b y z

@@ -3,10 +3,12 @@ use Rattle.std.proofs.Common.{◌≡◌, ℕ, ◌<◌, ◌≤◌, ◌&&◌, leb,
 use Rattle.std.specs.List.{AllByRecursion}
 use Rattle.v7_layout.specs.Numbers.{part, field}
 use Rattle.v7_layout.specs.Records.{inode_of}
-use Rattle.v7_map.specs.Image.{Image, sector_at, isize_of, inodes_before, inode_at, inode_sector, inode_offset}
+use Rattle.stable.specs.Store.{Image}
+use Rattle.v7_map.specs.Image.{sector_at, isize_of, inodes_before, inode_at, inode_sector, inode_offset}
 use Rattle.v7_map.specs.Frame.{Body, frame}
 use Rattle.v7_map.specs.Weak.{IsWeak}
-use Rattle.v7_map.specs.Plan.{put_all, data_puts, AllHeld, PutsInode, written_inode}
+use Rattle.stable.specs.Puts.{put_all}
+use Rattle.v7_map.specs.Plan.{data_puts, AllHeld, PutsInode, written_inode}
 use Rattle.v7_map.proofs.Data.{same_inode}
 use Rattle.v7_map.proofs.DataPuts.{data_puts-each}
 use Rattle.v7_map.proofs.Ranges.{inode_sector-inside, address-inside}

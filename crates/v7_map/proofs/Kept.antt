@@ -2,8 +2,9 @@
 use Rattle.std.proofs.Common.{◌≡◌, ℕ, zero, suc, ◌<◌, List, [], ◌∷◌, take}
 use Rattle.std.specs.List.{AllByRecursion}
 use Rattle.files_model.specs.Torn.{Asked}
-use Rattle.v7_map.specs.Image.{Image, IsImage, sector_at}
-use Rattle.v7_map.specs.Plan.{put_all}
+use Rattle.stable.specs.Store.{Image}
+use Rattle.v7_map.specs.Image.{IsImage, sector_at}
+use Rattle.stable.specs.Puts.{put_all}
 use Rattle.v7_map.specs.Plans.{IsTornImage, IsPlanOf}
 use Rattle.v7_map.specs.View.{view}
 use Rattle.v7_map.proofs.Prefixes.{prefix-at}

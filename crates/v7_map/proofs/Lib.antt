@@ -17,10 +17,10 @@ pub mod Accepted
 pub mod WriteInside
 pub mod Standing
 pub mod Sectors
+pub mod SectorOf
 pub mod TestVolume
 pub mod SuperBlock
 pub mod Edits
-pub mod Own
 pub mod Refusals
 pub mod Kept
 pub mod Members
@@ -30,3 +30,5 @@ pub mod Undamaged
 pub mod Weakness
 pub mod Children
 pub mod WriteAnswers
+pub mod Contents
+pub mod Answers

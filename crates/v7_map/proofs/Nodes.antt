@@ -6,7 +6,8 @@ use Rattle.files_model.specs.declared.attributes.Kind.TheVariants.{Regular, Dire
 use Rattle.files_model.specs.declared.attributes.FileId.{FileId}
 use Rattle.files_model.specs.Files.{Node, Files, live, if_current}
 use Rattle.files_model.proofs.Maps.{get-tabulated, get-tabulated_above}
-use Rattle.v7_map.specs.Image.{Image, inode_at}
+use Rattle.stable.specs.Store.{Image}
+use Rattle.v7_map.specs.Image.{inode_at}
 use Rattle.v7_map.specs.Frame.{is_directory, frame}
 use Rattle.v7_map.specs.Tree.{tree, is_named}
 use Rattle.v7_map.specs.View.{view, files_of, node_of, body_at, kind_of}

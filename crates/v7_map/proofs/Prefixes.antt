@@ -1,7 +1,7 @@
 -- Laws on each prefix of a list of puts.
 use Rattle.std.proofs.Common.{◌≡◌, ℕ, zero, suc, List, [], ◌∷◌, ◌++◌, take, set}
-use Rattle.v7_map.specs.Image.{Image}
-use Rattle.v7_map.specs.Plan.{put_all, EachPrefix}
+use Rattle.stable.specs.Store.{Image}
+use Rattle.stable.specs.Puts.{put_all, EachPrefix}
 
 module _ (P : Image → Type 0) where
   pub prefix-first : (puts : List (ℕ × List ℕ)) (image : Image) → EachPrefix P puts image → P image

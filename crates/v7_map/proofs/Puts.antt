@@ -2,8 +2,9 @@
 use Rattle.std.proofs.Common.{◌≡◌, ℕ, ◌<◌, ◌≤◌, List, [], ◌∷◌, ◌++◌, length, set, refl, arith, ◌∙◌, length-set, get_or-set_other}
 use Rattle.std.proofs.lemmas.List.Elements.{All-set}
 use Rattle.std.specs.List.{AllByRecursion}
-use Rattle.v7_map.specs.Image.{Image, sector_at, IsImage}
-use Rattle.v7_map.specs.Plan.{put_all}
+use Rattle.stable.specs.Store.{Image}
+use Rattle.v7_map.specs.Image.{sector_at, IsImage}
+use Rattle.stable.specs.Puts.{put_all}
 
 pub length-put_all : (puts : List (ℕ × List ℕ)) (image : Image) → length (put_all puts image) ≡ length image
 length-put_all [] image = refl

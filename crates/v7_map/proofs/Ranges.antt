@@ -1,6 +1,7 @@
 -- Inodes stand past the super-block and before the data blocks, and all of them in the image.
 use Rattle.std.proofs.Common.{◌≡◌, ◌≢◌, ℕ, ◌<◌, ◌≤◌, true, length, arith}
-use Rattle.v7_map.specs.Image.{Image, isize_of, is_inode, inode_sector}
+use Rattle.stable.specs.Store.{Image}
+use Rattle.v7_map.specs.Image.{isize_of, is_inode, inode_sector}
 use Rattle.v7_map.specs.Frame.{Place, frame}
 use Rattle.v7_map.specs.Weak.{IsWeak}
 use Rattle.v7_map.proofs.Data.{inode_below}

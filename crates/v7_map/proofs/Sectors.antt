@@ -6,7 +6,8 @@ use Rattle.std.specs.Option.{unwrap_or}
 use Rattle.files_model.specs.declared.attributes.Kind.TheVariants.{Regular}
 use Rattle.files_model.specs.Files.{Node, sectors_of, clipped}
 use Rattle.files_model.specs.Step.{sector_of, zeros}
-use Rattle.v7_map.specs.Image.{Image, sector_at, inode_at}
+use Rattle.stable.specs.Store.{Image}
+use Rattle.v7_map.specs.Image.{sector_at, inode_at}
 use Rattle.v7_map.specs.Frame.{Body, address_of, frame}
 use Rattle.v7_map.specs.View.{view, held}
 use Rattle.v7_map.proofs.Bodies.{view-sector}

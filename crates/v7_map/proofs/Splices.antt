@@ -7,7 +7,8 @@ use Rattle.v7_layout.specs.Numbers.{part}
 use Rattle.v7_layout.specs.Records.{inode_of}
 use Rattle.files_model.specs.Step.{spliced}
 use Rattle.files_model.proofs.Clips.{drop_past}
-use Rattle.v7_map.specs.Image.{Image, sector_at, is_inode, inode_sector, inode_offset}
+use Rattle.stable.specs.Store.{Image}
+use Rattle.v7_map.specs.Image.{sector_at, is_inode, inode_sector, inode_offset}
 use Rattle.v7_map.specs.Plan.{PutsInode}
 use Rattle.v7_map.proofs.Frames.{and_left}
 

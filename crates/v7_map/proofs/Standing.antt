@@ -6,7 +6,8 @@ use Rattle.files_model.specs.declared.attributes.FileId.{FileId}
 use Rattle.files_model.specs.Files.{Node, live, if_current}
 use Rattle.files_model.specs.Step.{attr_of}
 use Rattle.files_model.proofs.Maps.{get-tabulated, get-tabulated_above}
-use Rattle.v7_map.specs.Image.{Image, inode_at, is_inode, isize_of, inodes_before}
+use Rattle.stable.specs.Store.{Image}
+use Rattle.v7_map.specs.Image.{inode_at, is_inode, isize_of, inodes_before}
 use Rattle.v7_map.specs.Frame.{frame}
 use Rattle.v7_map.specs.Tree.{tree, is_named, links}
 use Rattle.v7_map.specs.Weak.{IsStrong}

@@ -2,7 +2,8 @@
 use Rattle.std.proofs.Common.{◌≡◌, Bool, true, false, not, ◌&&◌, ◌==◌, length, refl, leb, ltb, eq-eqb}
 use Rattle.std.proofs.lemmas.Bool.{leb-true, ltb-true, eqb-true, le-leb, lt-ltb}
 use Rattle.v7_layout.specs.Records.{super_of}
-use Rattle.v7_map.specs.Image.{Image, sector_at}
+use Rattle.stable.specs.Store.{Image}
+use Rattle.v7_map.specs.Image.{sector_at}
 use Rattle.v7_map.specs.Frame.{Frame, frame}
 use Rattle.v7_map.specs.Weak.{HasSizes}
 use Rattle.v7_map.specs.Damage.{Sizes, passes, has_sizes}

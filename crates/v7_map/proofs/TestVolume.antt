@@ -6,11 +6,13 @@ use Rattle.v7_layout.specs.Numbers.{part, field}
 use Rattle.v7_layout.specs.Records.{slot_of_bytes, inode_of}
 use Rattle.files_model.specs.declared.attributes.Kind.TheVariants.{Regular}
 use Rattle.files_model.specs.Files.{clipped}
-use Rattle.v7_map.specs.Image.{Image, inode_at}
+use Rattle.stable.specs.Store.{Image}
+use Rattle.v7_map.specs.Image.{inode_at}
 use Rattle.v7_map.specs.Frame.{frame, slots_of, slot_of, address_of, Body}
 use Rattle.v7_map.specs.Tree.{tree, walked, links}
 use Rattle.v7_map.specs.Damage.{damage, tests, Shared, Address}
 use Rattle.v7_map.specs.View.{view, files_of, body_of, body_at}
+use Rattle.v7_map.specs.Stored.{sector_in, stored_sector, stored_content, read_bytes}
 
 padded : ℕ → List ℕ → List ℕ
 padded n bytes = bytes ++ replicate (n - length bytes) 0
@@ -70,6 +72,43 @@ free = get-tabulated _ 17 4 (lit< tt)
 sound : damage (frame t) ≡ None
 unfolding tests links frame field part t padded super root file slots walked inode_at inode_of slots_of slot_of slot_of_bytes address_of
 sound = refl
+
+-- sectors of the file by its addresses, and past them
+placed : sector_in t (inode_at t 3) 1 ≡ 6
+unfolding sector_in field part t padded super root file slots inode_at inode_of
+placed = refl
+
+not_placed : sector_in t (inode_at t 3) 2 ≡ 0
+unfolding sector_in field part t padded super root file slots inode_at inode_of
+not_placed = refl
+
+-- bytes read at its end
+last_bytes : read_bytes t (inode_at t 3) 1020 8 ≡ 97 ∷ 97 ∷ 97 ∷ 97 ∷ []
+unfolding stored_content stored_sector sector_in clipped field part t padded super root file slots inode_at inode_of
+last_bytes = refl
+
+no_bytes : read_bytes t (inode_at t 3) 1024 8 ≡ []
+unfolding stored_content stored_sector sector_in clipped field part t padded super root file slots inode_at inode_of
+no_bytes = refl
+
+-- a file with a single indirect block, whose second address is past the end
+mapped : Image
+unfolding padded super root slots
+mapped = replicate 512 0 ∷ super
+    ∷ padded 512 (replicate 64 0 ++ root ++ padded 64 (padded 42 (164 ∷ 129 ∷ 1 ∷ 0 ∷ 100 ∷ 0 ∷ 100 ∷ 0 ∷ 0 ∷ 0 ∷ 1 ∷ []) ++ 5 ∷ []))
+    ∷ replicate 512 0 ∷ slots ∷ (padded 508 (6 ∷ 0 ∷ 0 ∷ 0 ∷ 64 ∷ []) ++ 63 ∷ 0 ∷ 0 ∷ 0 ∷ []) ∷ replicate 58 (replicate 512 97)
+
+first_indirect : sector_in mapped (inode_at mapped 3) 10 ≡ 6
+unfolding sector_in field part mapped padded super root file slots inode_at inode_of
+first_indirect = refl
+
+past_the_end : sector_in mapped (inode_at mapped 3) 11 ≡ 0
+unfolding sector_in field part mapped padded super root file slots inode_at inode_of
+past_the_end = refl
+
+last_indirect : sector_in mapped (inode_at mapped 3) 137 ≡ 63
+unfolding sector_in field part mapped padded super root file slots inode_at inode_of
+last_indirect = refl
 
 -- two files that share a block
 shared : Image

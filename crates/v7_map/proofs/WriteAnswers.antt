@@ -1,5 +1,5 @@
 -- What a WRITE answers and puts, by the records of an image.
-use Rattle.std.proofs.Common.{◌≡◌, ℕ, ◌+◌, ◌<◌, ◌≤◌, max, Bool, true, false, cond, not, ◌==◌, List, [], ◌∷◌, ◌++◌, length, map, get_or, refl, ap, subst, ◌∙◌, arith, eqb, Option, Some, None}
+use Rattle.std.proofs.Common.{◌≡◌, ℕ, ◌+◌, ◌≤◌, max, Bool, true, false, cond, not, ◌==◌, List, [], ◌∷◌, ◌++◌, length, map, refl, ap, subst, ◌∙◌, arith, eqb, Option, Some, None}
 use Rattle.std.specs.FinMap.{get}
 use Rattle.files_model.specs.declared.attributes.Attr.{Attr}
 use Rattle.files_model.specs.declared.attributes.FileId.{FileId}
@@ -11,18 +11,22 @@ use Rattle.files_model.specs.declared.reply.Stat.{Stat}
 use Rattle.files_model.specs.declared.reply.Stat.TheVariants as stat
 use Rattle.files_model.specs.Files.{Node, live, clipped}
 use Rattle.files_model.specs.Step.{step, write_row, at_live, unless, with_node, attr_of, written, write_refusal, changes, touched, spliced, sector_of}
-use Rattle.v7_map.specs.Image.{Image, IsImage, sector_at, inode_at, inode_sector, is_inode}
+use Rattle.files_model.proofs.Clips.{AllIn}
+use Rattle.stable.specs.Store.{Image}
+use Rattle.v7_map.specs.Image.{IsImage, sector_at, inode_at, inode_sector, is_inode}
 use Rattle.v7_map.specs.Frame.{Body, frame}
 use Rattle.v7_map.specs.Weak.{IsStrong}
 use Rattle.v7_map.specs.View.{view, node_at}
-use Rattle.v7_map.specs.Plan.{data_puts, written_inode, PutsInode, EachPrefix}
-use Rattle.v7_map.specs.Stored.{is_standing, stored_attr, refusal_in, answer_by, write_answer, direct_puts}
+use Rattle.stable.specs.Puts.{EachPrefix}
+use Rattle.v7_map.specs.Plan.{data_puts, written_inode, PutsInode}
+use Rattle.v7_map.specs.Stored.{is_standing, sector_in, stored_attr, write_refusal_in, answer_by, write_answer, write_puts}
 use Rattle.v7_map.specs.Plans.{IsPlanOf}
-use Rattle.v7_map.proofs.Accepted.{AllInPlace, IsAccepted, accepted-is}
+use Rattle.v7_map.proofs.Accepted.{IsAccepted, accepted-is}
 use Rattle.v7_map.proofs.Bodies.{view-IsBody, view-block}
 use Rattle.v7_map.proofs.Frames.{and_left, and_right}
 use Rattle.v7_map.proofs.Refusals.{write_refusal-stored}
-use Rattle.v7_map.proofs.Sectors.{address-direct, sector_of-held}
+use Rattle.v7_map.proofs.SectorOf.{sector_in-address}
+use Rattle.v7_map.proofs.Sectors.{sector_of-held}
 use Rattle.v7_map.proofs.Standing.{live-standing, attr_of-stored, node-is}
 use Rattle.v7_map.proofs.WriteInside.{write-IsPlanOf, write-frames}
 
@@ -55,19 +59,19 @@ module _ (image : Image) (strong : IsStrong (frame image)) (file : FileId) (offs
     live_is : live (view image) file ≡ Some n
     live_is = live-standing image strong file ∙ ap (λ b. cond b (Some n) None) stands
 
-    refusal_is : write_refusal (view image) file n cred offset bytes ≡ refusal_in image file.ino cred offset (length bytes)
+    refusal_is : write_refusal (view image) file n cred offset bytes ≡ write_refusal_in image file.ino cred offset (length bytes)
     refusal_is = write_refusal-stored image strong file.ino inode_is used file.generation cred offset bytes
 
     answer : (o : Option Stat) → write_refusal (view image) file n cred offset bytes ≡ o
         → (unless (view image) o (reply.Attr (attr_of file.ino (written n offset bytes now)), with_node (view image) file.ino (written n offset bytes now))).0
-        ≡ answer_by o (stored_attr file.ino (written_inode (inode_at image file.ino) now))
+        ≡ answer_by o (reply.Attr (stored_attr file.ino (written_inode (inode_at image file.ino) now)))
     answer (Some status) e = refl
     answer None e =
         let inside = (accepted-is (view image) file n cred offset bytes e).inside in
         ap reply.Attr (attr-written file.ino n offset bytes now inside ∙ ap (λ (a : Attr). record a { mtime = now; ctime = now }) (attr_of-stored image strong file.ino used))
 
     -- the puts by the addresses of the inode
-    module _ (whole : IsImage image) (none : refusal_in image file.ino cred offset (length bytes) ≡ None) where
+    module _ (whole : IsImage image) (none : write_refusal_in image file.ino cred offset (length bytes) ≡ None) where
       accepted : write_refusal (view image) file n cred offset bytes ≡ None
       accepted = refusal_is ∙ none
 
@@ -77,36 +81,36 @@ module _ (image : Image) (strong : IsStrong (frame image)) (file : FileId) (offs
       at : get (view image).nodes file.ino ≡ Some n
       at = node-is image strong file.ino inode_is ∙ ap (λ b. cond b (Some n) None) used
 
-      same_put : (k : ℕ) (b : List ℕ) → get n.sectors k ≡ Some b → k < 10
+      same_put : (k : ℕ) (b : List ℕ) → get n.sectors k ≡ Some b
           → ◌≡◌ {A = ℕ × List ℕ} ((frame image).address file.ino (Body k), spliced offset bytes k (sector_of n.sectors k))
-          (get_or (inode_at image file.ino).direct k 0, spliced offset bytes k (clipped (inode_at image file.ino).size k (sector_at image (get_or (inode_at image file.ino).direct k 0))))
-      same_put k b held direct =
-          let a = address-direct image file.ino k used direct in
+          (sector_in image (inode_at image file.ino) k, spliced offset bytes k (clipped (inode_at image file.ino).size k (sector_at image (sector_in image (inode_at image file.ino) k))))
+      same_put k b held =
+          let a = sector_in-address image strong.weak file.ino used k in
           let nonzero = view-block image file.ino k n b at held in
           let below = (view-IsBody image file.ino n whole strong.weak at).below k b held in
           let content = sector_of-held image file.ino k n at facts.regular below nonzero ∙ ap (λ q. clipped n.size k (sector_at image q)) a in
           λ z. (a z, spliced offset bytes k (content z))
 
-      pub direct_puts-data : data_puts (frame image) file.ino (changes offset bytes n.sectors) ≡ direct_puts image (inode_at image file.ino) offset bytes
-      direct_puts-data = each (touched offset (length bytes)) facts.in_place
+      pub write_puts-data : data_puts (frame image) file.ino (changes offset bytes n.sectors) ≡ write_puts image (inode_at image file.ino) offset bytes
+      write_puts-data = each (touched offset (length bytes)) facts.there
         where
-          each : (ks : List ℕ) → AllInPlace n ks → data_puts (frame image) file.ino (map (λ k. (k, spliced offset bytes k (sector_of n.sectors k))) ks)
-              ≡ map (λ k. (get_or (inode_at image file.ino).direct k 0, spliced offset bytes k (clipped (inode_at image file.ino).size k (sector_at image (get_or (inode_at image file.ino).direct k 0))))) ks
+          each : (ks : List ℕ) → AllIn n.sectors ks → data_puts (frame image) file.ino (map (λ k. (k, spliced offset bytes k (sector_of n.sectors k))) ks)
+              ≡ map (λ k. (sector_in image (inode_at image file.ino) k, spliced offset bytes k (clipped (inode_at image file.ino).size k (sector_at image (sector_in image (inode_at image file.ino) k))))) ks
           each [] h = refl
-          each (k ∷ ks) h = λ z. same_put k h.0.0 h.0.1 h.1 z ∷ each ks h.2 z
+          each (k ∷ ks) h = λ z. same_put k h.0.0 h.0.1 z ∷ each ks h.1 z
 
       -- the plan
-      pub direct_puts-IsPlanOf : (inode_bytes : List ℕ) → PutsInode image file.ino inode_bytes (written_inode (inode_at image file.ino) now)
-          → IsPlanOf image ((Write file offset bytes, cred) ∷ []) now (direct_puts image (inode_at image file.ino) offset bytes ++ (inode_sector file.ino, inode_bytes) ∷ [])
-      direct_puts-IsPlanOf inode_bytes last =
-          subst (λ puts. IsPlanOf image ((Write file offset bytes, cred) ∷ []) now (puts ++ (inode_sector file.ino, inode_bytes) ∷ [])) direct_puts-data
+      pub write_puts-IsPlanOf : (inode_bytes : List ℕ) → PutsInode image file.ino inode_bytes (written_inode (inode_at image file.ino) now)
+          → IsPlanOf image ((Write file offset bytes, cred) ∷ []) now (write_puts image (inode_at image file.ino) offset bytes ++ (inode_sector file.ino, inode_bytes) ∷ [])
+      write_puts-IsPlanOf inode_bytes last =
+          subst (λ puts. IsPlanOf image ((Write file offset bytes, cred) ∷ []) now (puts ++ (inode_sector file.ino, inode_bytes) ∷ [])) write_puts-data
           (write-IsPlanOf image file offset bytes cred now n strong whole live_is accepted inode_bytes last)
 
       -- none of its prefixes changes the frame
-      pub direct_puts-frames : (inode_bytes : List ℕ) → PutsInode image file.ino inode_bytes (written_inode (inode_at image file.ino) now)
-          → EachPrefix (λ (x : Image). frame x ≡ frame image) (direct_puts image (inode_at image file.ino) offset bytes ++ (inode_sector file.ino, inode_bytes) ∷ []) image
-      direct_puts-frames inode_bytes last =
-          subst (λ puts. EachPrefix (λ (x : Image). frame x ≡ frame image) (puts ++ (inode_sector file.ino, inode_bytes) ∷ []) image) direct_puts-data
+      pub write_puts-frames : (inode_bytes : List ℕ) → PutsInode image file.ino inode_bytes (written_inode (inode_at image file.ino) now)
+          → EachPrefix (λ (x : Image). frame x ≡ frame image) (write_puts image (inode_at image file.ino) offset bytes ++ (inode_sector file.ino, inode_bytes) ∷ []) image
+      write_puts-frames inode_bytes last =
+          subst (λ puts. EachPrefix (λ (x : Image). frame x ≡ frame image) (puts ++ (inode_sector file.ino, inode_bytes) ∷ []) image) write_puts-data
           (write-frames image file offset bytes cred now n strong whole live_is accepted inode_bytes last)
 
   -- the answer
@@ -119,9 +123,9 @@ module _ (image : Image) (strong : IsStrong (frame image)) (file : FileId) (offs
           (reply.Attr (attr_of file.ino (written m offset bytes now)), with_node (view image) file.ino (written m offset bytes now)))).0
 
       by_standing : (b : Bool) → is_standing image file ≡ b → row (live (view image) file)
-          ≡ cond b (answer_by (refusal_in image file.ino cred offset (length bytes)) (stored_attr file.ino (written_inode (inode_at image file.ino) now))) (reply.Refused stat.Stale)
+          ≡ cond b (answer_by (write_refusal_in image file.ino cred offset (length bytes)) (reply.Attr (stored_attr file.ino (written_inode (inode_at image file.ino) now)))) (reply.Refused stat.Stale)
       by_standing true stands =
           ap row (live_is stands)
           ∙ answer stands (write_refusal (view image) file n cred offset bytes) refl
-          ∙ ap (λ o. answer_by o (stored_attr file.ino (written_inode (inode_at image file.ino) now))) (refusal_is stands)
+          ∙ ap (λ o. answer_by o (reply.Attr (stored_attr file.ino (written_inode (inode_at image file.ino) now)))) (refusal_is stands)
       by_standing false stale = ap row (live-standing image strong file ∙ ap (λ b. cond b (Some n) None) stale)

@@ -13,13 +13,15 @@ use Rattle.files_model.specs.Torn.{Asked, TornWrites}
 use Rattle.files_model.proofs.Maps.{get-insert_same}
 use Rattle.files_model.proofs.Bodies.{all_clipped, AllBelow, RiseFrom, RiseFrom-map, IsTornBody-prefix}
 use Rattle.files_model.proofs.Clips.{AllIn, clipped_changes}
-use Rattle.v7_map.specs.Image.{Image, inode_at, inode_sector, IsImage}
+use Rattle.stable.specs.Store.{Image}
+use Rattle.v7_map.specs.Image.{inode_at, inode_sector, IsImage}
 use Rattle.v7_map.specs.Frame.{Frame, Body, frame}
 use Rattle.v7_map.specs.Weak.{IsWeak, IsStrong}
 use Rattle.v7_map.specs.View.{view}
-use Rattle.v7_map.specs.Plan.{put_all, data_puts, AllHeld, PutsInode, written_inode, EachPrefix}
+use Rattle.stable.specs.Puts.{put_all, EachPrefix}
+use Rattle.v7_map.specs.Plan.{data_puts, AllHeld, PutsInode, written_inode}
 use Rattle.v7_map.specs.Plans.{IsTornImage, IsPlanOf}
-use Rattle.v7_map.proofs.Accepted.{AllInPlace, IsAccepted, accepted-is}
+use Rattle.v7_map.proofs.Accepted.{IsAccepted, accepted-is}
 use Rattle.v7_map.proofs.Bodies.{view-IsBody, view-block}
 use Rattle.v7_map.proofs.DataPuts.{frame_after_puts, with_node_twice, data_puts-each}
 use Rattle.v7_map.proofs.InodePuts.{PutsInode-after_data}
@@ -74,37 +76,30 @@ module _ (image : Image) (file : FileId) (offset : ℕ) (bytes : List ℕ) (cred
       by_length false = RiseFrom-map _ _ _
 
   low : AllBelow (sectors_of n.size) es
-  low = below (touched offset (length bytes)) facts.in_place
+  low = below (touched offset (length bytes)) facts.there
     where
-      below : (ks : List ℕ) → AllInPlace n ks → AllBelow (sectors_of n.size) (map (λ k. (k, spliced offset bytes k (sector_of n.sectors k))) ks)
+      below : (ks : List ℕ) → AllIn n.sectors ks → AllBelow (sectors_of n.size) (map (λ k. (k, spliced offset bytes k (sector_of n.sectors k))) ks)
       below [] h = tt
-      below (k ∷ ks) h = ((view-IsBody image file.ino n whole weak at).below k h.0.0 h.0.1, below ks h.2)
+      below (k ∷ ks) h = ((view-IsBody image file.ino n whole weak at).below k h.0.0 h.0.1, below ks h.1)
 
   held : AllHeld (frame image) file.ino es
-  held = blocks (touched offset (length bytes)) facts.in_place
+  held = blocks (touched offset (length bytes)) facts.there
     where
-      blocks : (ks : List ℕ) → AllInPlace n ks → AllHeld (frame image) file.ino (map (λ k. (k, spliced offset bytes k (sector_of n.sectors k))) ks)
+      blocks : (ks : List ℕ) → AllIn n.sectors ks → AllHeld (frame image) file.ino (map (λ k. (k, spliced offset bytes k (sector_of n.sectors k))) ks)
       blocks [] h = tt
-      blocks (k ∷ ks) h = (view-block image file.ino k n h.0.0 at h.0.1, blocks ks h.2)
-
-  there : AllIn n.sectors (touched offset (length bytes))
-  there = sectors (touched offset (length bytes)) facts.in_place
-    where
-      sectors : (ks : List ℕ) → AllInPlace n ks → AllIn n.sectors ks
-      sectors [] h = tt
-      sectors (k ∷ ks) h = (h.0, sectors ks h.2)
+      blocks (k ∷ ks) h = (view-block image file.ino k n h.0.0 at h.0.1, blocks ks h.1)
 
   same : all_clipped n.size es ≡ es
-  same = clipped_changes n.size offset bytes n.sectors (view-IsBody image file.ino n whole weak at) facts.inside (touched offset (length bytes)) there
+  same = clipped_changes n.size offset bytes n.sectors (view-IsBody image file.ino n whole weak at) facts.inside (touched offset (length bytes)) facts.there
 
   long : AllByRecursion (λ (p : ℕ × List ℕ). length p.1 ≡ 512) puts
-  long = lengths (touched offset (length bytes)) facts.in_place
+  long = lengths (touched offset (length bytes)) facts.there
     where
-      lengths : (ks : List ℕ) → AllInPlace n ks → AllByRecursion (λ (p : ℕ × List ℕ). length p.1 ≡ 512) (data_puts (frame image) file.ino (map (λ k. (k, spliced offset bytes k (sector_of n.sectors k))) ks))
+      lengths : (ks : List ℕ) → AllIn n.sectors ks → AllByRecursion (λ (p : ℕ × List ℕ). length p.1 ≡ 512) (data_puts (frame image) file.ino (map (λ k. (k, spliced offset bytes k (sector_of n.sectors k))) ks))
       lengths [] h = tt
       lengths (k ∷ ks) h =
           let is : sector_of n.sectors k ≡ h.0.0 = ap (λ o. unwrap_or o (replicate 512 0)) h.0.1 in
-          (length-spliced offset bytes k (sector_of n.sectors k) (ap length is ∙ (view-IsBody image file.ino n whole weak at).long k h.0.0 h.0.1), lengths ks h.2)
+          (length-spliced offset bytes k (sector_of n.sectors k) (ap length is ∙ (view-IsBody image file.ino n whole weak at).long k h.0.0 h.0.1), lengths ks h.1)
 
   -- the step
   after : (step (view image) (Write file offset bytes) cred now).1 ≡ with_node (view image) file.ino (written n offset bytes now)

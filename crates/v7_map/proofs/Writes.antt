@@ -4,7 +4,8 @@ use Rattle.std.specs.FinMap.{get, insert}
 use Rattle.files_model.specs.declared.attributes.Kind.TheVariants.{Regular}
 use Rattle.files_model.specs.Files.{Node, sectors_of, clipped}
 use Rattle.files_model.specs.Step.{with_node}
-use Rattle.v7_map.specs.Image.{Image, inode_at, inode_sector}
+use Rattle.stable.specs.Store.{Image}
+use Rattle.v7_map.specs.Image.{inode_at, inode_sector}
 use Rattle.v7_map.specs.Frame.{Body, frame}
 use Rattle.v7_map.specs.Tree.{tree}
 use Rattle.v7_map.specs.Weak.{IsWeak}

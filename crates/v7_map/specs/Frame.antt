@@ -6,7 +6,8 @@ use Rattle.v7_layout.specs.declared.inode.Inode.{Inode}
 use Rattle.v7_layout.specs.Numbers.{part, field}
 use Rattle.v7_layout.specs.Records.{slot_of_bytes}
 use Rattle.files_model.specs.Files.{Slot}
-use Rattle.v7_map.specs.Image.{Image, sector_at, isize_of, fsize_of, mark_of, inodes_before, inode_at}
+use Rattle.stable.specs.Store.{Image}
+use Rattle.v7_map.specs.Image.{sector_at, isize_of, fsize_of, mark_of, inodes_before, inode_at}
 
 -- what a frame has of an inode. The type is the four highest bits of the mode, 0 in a free inode
 pub record Head : Type 0 where

@@ -1,13 +1,10 @@
 -- An image: the sectors of a volume, and where its records stand (docs/FORMATS.md, super-block and inode).
 use Rattle.std.specs.Prelude.{◌≡◌, ℕ, ◌+◌, ◌-◌, ◌*◌, ◌/◌, ◌%◌, Bool, List, [], length, get_or, nat_le, if◌then◌else◌, not, ◌==◌, ◌&&◌}
 use Rattle.std.specs.List.{All}
+use Rattle.stable.specs.Store.{Image}
 use Rattle.v7_layout.specs.declared.inode.Inode.{Inode}
 use Rattle.v7_layout.specs.Numbers.{part, field}
 use Rattle.v7_layout.specs.Records.{inode_of}
-
--- the sectors in order, each a list of bytes
-abbrev pub Image : Type 0
-Image = List (List ℕ)
 
 -- sector s, with no bytes where the image ends before it
 abbrev pub sector_at : Image → ℕ → List ℕ

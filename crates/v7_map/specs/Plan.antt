@@ -1,20 +1,11 @@
--- A plan: sectors with their new content, put one after the other.
-use Rattle.std.specs.Prelude.{◌≡◌, ◌≢◌, ◌≤◌, ℕ, true, List, [], ◌∷◌, length, map, set}
+-- Puts of a body's sectors, and of an inode.
+use Rattle.std.specs.Prelude.{◌≡◌, ◌≢◌, ◌≤◌, ℕ, true, List, [], ◌∷◌, length, map}
 use Rattle.v7_layout.specs.declared.inode.Inode.{Inode}
 use Rattle.v7_layout.specs.Numbers.{part}
 use Rattle.v7_layout.specs.Records.{inode_of}
-use Rattle.v7_map.specs.Image.{Image, sector_at, inode_sector, inode_offset, is_inode}
+use Rattle.stable.specs.Store.{Image}
+use Rattle.v7_map.specs.Image.{sector_at, inode_sector, inode_offset, is_inode}
 use Rattle.v7_map.specs.Frame.{Frame, Body}
-
--- the image after puts in order
-abbrev pub put_all : List (ℕ × List ℕ) → Image → Image
-put_all [] image = image
-put_all (put ∷ puts) image = put_all puts (set image put.0 put.1)
-
--- what holds of an image, and after each of these puts
-abbrev pub EachPrefix : (Image → Type 0) → List (ℕ × List ℕ) → Image → Type 0
-EachPrefix P [] image = P image
-EachPrefix P (put ∷ puts) image = P image × EachPrefix P puts (set image put.0 put.1)
 
 -- the puts of sectors of inode i's body, where their blocks stand
 abbrev pub data_puts : Frame → ℕ → List (ℕ × List ℕ) → List (ℕ × List ℕ)

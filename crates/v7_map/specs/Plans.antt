@@ -3,11 +3,11 @@ use Rattle.std.specs.Prelude.{◌≡◌, ℕ, ◌<◌, ◌≤◌, List, length}
 use Rattle.std.specs.List.{AllByRecursion}
 use Rattle.files_model.specs.Files.{Files}
 use Rattle.files_model.specs.Torn.{Asked, Torn, after_calls}
-use Rattle.v7_map.specs.Image.{Image}
+use Rattle.stable.specs.Store.{Image}
 use Rattle.v7_map.specs.Frame.{frame}
 use Rattle.v7_map.specs.Weak.{IsWeak, IsStrong}
 use Rattle.v7_map.specs.View.{view}
-use Rattle.v7_map.specs.Plan.{put_all, EachPrefix}
+use Rattle.stable.specs.Puts.{put_all, EachPrefix}
 
 -- a moment of a plan: the image can be mended, and its files are torn
 pub record IsTornImage (files : Files) (calls : List Asked) (now : ℕ) (image : Image) : Type 0 where

@@ -1,6 +1,7 @@
 -- What handles and calls mean, by the records of an image in which there is nothing to mend.
-use Rattle.std.specs.Prelude.{ℕ, ◌+◌, ◌/◌, ◌%◌, Bool, List, [], ◌∷◌, length, map, get_or, Option, Some, None, ◌==◌, nat_lt, nat_le, if◌then◌else◌, not, ◌&&◌}
-use Rattle.std.specs.List.{list_all}
+use Rattle.std.specs.Prelude.{ℕ, ◌+◌, ◌-◌, ◌/◌, ◌%◌, min, Bool, true, false, List, [], ◌∷◌, length, map, take, drop, get_or, Option, Some, None, ◌==◌, nat_lt, nat_le, if◌then◌else◌, not, ◌&&◌}
+use Rattle.std.specs.List.{range_with_len, list_all, flat_map}
+use Rattle.stable.specs.Store.{Image}
 use Rattle.v7_layout.specs.declared.inode.Inode.{Inode}
 use Rattle.files_model.specs.declared.attributes.Attr.{Attr}
 use Rattle.files_model.specs.declared.attributes.FileId.{FileId}
@@ -10,12 +11,33 @@ use Rattle.files_model.specs.declared.reply.Reply.{Reply}
 use Rattle.files_model.specs.declared.reply.Reply.TheVariants as reply
 use Rattle.files_model.specs.declared.reply.Stat.{Stat}
 use Rattle.files_model.specs.declared.reply.Stat.TheVariants as stat
-use Rattle.files_model.specs.Files.{clipped}
+use Rattle.files_model.specs.Files.{sectors_of, clipped}
 use Rattle.files_model.specs.Permission.{allows, is_directory, is_link}
-use Rattle.files_model.specs.Step.{touched, spliced, first_of}
-use Rattle.v7_map.specs.Image.{Image, sector_at, is_inode, inode_at, is_read_only}
+use Rattle.files_model.specs.Step.{touched, spliced, zeros, first_of, most_read}
+use Rattle.v7_map.specs.Image.{sector_at, is_inode, inode_at, is_read_only}
+use Rattle.v7_map.specs.Frame.{listed, body_places}
+use Rattle.v7_map.specs.Weak.{size_limit}
 use Rattle.v7_map.specs.View.{kind_of}
 use Rattle.v7_map.specs.Plan.{written_inode}
+
+-- ---- inodes, whatever stands in them
+
+-- an address; one at or past the end of a store of so many sectors is none
+abbrev pub address_within : ℕ → ℕ → ℕ
+address_within sectors address = if nat_lt address sectors then address else 0
+
+-- the address of sector k of an inode's body, 0 for none: one of the ten of the inode, or one of the 128 in its single indirect block
+unfoldable pub sector_in : Image → Inode → ℕ → ℕ
+sector_in image n k = address_within (length image) (
+    if nat_lt k 10 then get_or n.direct k 0
+    else if nat_lt k body_places then listed image (address_within (length image) n.single) (k - 10)
+    else 0)
+
+-- the inode, whose size is taken as the greatest one where it is above that
+abbrev pub limited : Inode → Inode
+limited n = record n { size = min n.size size_limit }
+
+-- ---- handles
 
 -- the inode is used, and of this generation
 abbrev pub is_current : Inode → ℕ → Bool
@@ -40,34 +62,76 @@ stored_attr i n = record {
   ctime = n.ctime;
 }
 
+-- a refusal, or this answer
+abbrev pub answer_by : Option Stat → Reply → Reply
+answer_by None answer = answer
+answer_by (Some status) answer = reply.Refused status
+
+-- the answer where the handle stands
+abbrev pub answer_standing : Image → FileId → Reply → Reply
+answer_standing image file answer = if is_standing image file then answer else reply.Refused stat.Stale
+
+-- ---- GETATTR
+
+abbrev pub getattr_answer : Image → FileId → Reply
+getattr_answer image file = answer_standing image file (reply.Attr (stored_attr file.ino (inode_at image file.ino)))
+
+-- ---- READ
+
+-- sector k of a body: what stands there with zeros past the size; a missing one reads as zeros
+unfoldable pub stored_sector : Image → Inode → ℕ → List ℕ
+stored_sector image n k = if sector_in image n k == 0 then zeros else clipped n.size k (sector_at image (sector_in image n k))
+
+-- the bytes of a body: its sectors one after the other, up to its size
+unfoldable pub stored_content : Image → Inode → List ℕ
+stored_content image n = take n.size (flat_map (stored_sector image n) (range_with_len 0 (sectors_of n.size)))
+
+-- the refusal of a read of inode i, if any
+abbrev pub read_refusal_by : ℕ → Inode → Cred → Option Stat
+read_refusal_by i n cred = first_of (
+    (is_directory (kind_of (n.mode / 4096)), stat.Isdir) ∷ (is_link (kind_of (n.mode / 4096)), stat.Nxio)
+    ∷ (not (allows cred (stored_attr i n) want.Read), stat.Acces) ∷ [])
+
+-- the bytes of a read of so many from an offset on
+abbrev pub read_bytes : Image → Inode → ℕ → ℕ → List ℕ
+read_bytes image n offset count = take (min count most_read) (drop offset (stored_content image n))
+
+abbrev pub read_answer : Image → FileId → ℕ → ℕ → Cred → Reply
+read_answer image file offset count cred =
+    let n = inode_at image file.ino in
+    answer_standing image file (answer_by (read_refusal_by file.ino n cred) (reply.Data (stored_attr file.ino n) (read_bytes image n offset count)))
+
 -- ---- WRITE inside a file
 
--- a write of so many bytes lies inside the file, and the inode itself has the address of each sector that it touches
-abbrev pub lies_inside : Inode → ℕ → ℕ → Bool
-lies_inside n offset count = nat_le (offset + count) n.size && list_all (λ k. nat_lt k 10 && not (get_or n.direct k 0 == 0)) (touched offset count)
+-- the refusal of a write of so many bytes to inode i that comes without a look at its sectors, if any
+abbrev pub write_refusal_by : Bool → ℕ → Inode → Cred → ℕ → ℕ → Option Stat
+write_refusal_by read_only i n cred offset count = first_of (
+    (read_only, stat.Rofs) ∷ (is_directory (kind_of (n.mode / 4096)), stat.Isdir) ∷ (is_link (kind_of (n.mode / 4096)), stat.Nxio)
+    ∷ (not (allows cred (stored_attr i n) want.Write), stat.Acces) ∷ (not (nat_le (offset + count) n.size), stat.Fbig) ∷ [])
+
+-- no sector that a write of so many bytes touches is missing
+unfoldable pub has_touched : Image → Inode → ℕ → ℕ → Bool
+has_touched image n offset count = list_all (λ k. not (sector_in image n k == 0)) (touched offset count)
+
+-- a refusal, or that of a missing sector
+abbrev pub or_missing : Option Stat → Bool → Option Stat
+or_missing (Some status) all_there = Some status
+or_missing None true = None
+or_missing None false = Some stat.Fbig
 
 -- the refusal of a write of so many bytes to inode i, if any
-abbrev pub refusal_by : Bool → ℕ → Inode → Cred → ℕ → ℕ → Option Stat
-refusal_by read_only i n cred offset count = first_of (
-    (read_only, stat.Rofs) ∷ (is_directory (kind_of (n.mode / 4096)), stat.Isdir) ∷ (is_link (kind_of (n.mode / 4096)), stat.Nxio)
-    ∷ (not (allows cred (stored_attr i n) want.Write), stat.Acces) ∷ (not (lies_inside n offset count), stat.Fbig) ∷ [])
+abbrev pub write_refusal_in : Image → ℕ → Cred → ℕ → ℕ → Option Stat
+write_refusal_in image i cred offset count =
+    let n = inode_at image i in
+    or_missing (write_refusal_by (is_read_only (sector_at image 1)) i n cred offset count) (has_touched image n offset count)
 
--- the same in an image
-abbrev pub refusal_in : Image → ℕ → Cred → ℕ → ℕ → Option Stat
-refusal_in image i cred offset count = refusal_by (is_read_only (sector_at image 1)) i (inode_at image i) cred offset count
-
--- a refusal, or the attributes with the time of the write
-abbrev pub answer_by : Option Stat → Attr → Reply
-answer_by None attr = reply.Attr attr
-answer_by (Some status) attr = reply.Refused status
-
--- the answer of a write of so many bytes
+-- the answer of a write of so many bytes: the attributes have its time
 abbrev pub write_answer : Image → FileId → ℕ → ℕ → Cred → ℕ → Reply
 write_answer image file offset count cred now =
-    if is_standing image file then answer_by (refusal_in image file.ino cred offset count) (stored_attr file.ino (written_inode (inode_at image file.ino) now))
-    else reply.Refused stat.Stale
+    answer_standing image file (
+    answer_by (write_refusal_in image file.ino cred offset count) (reply.Attr (stored_attr file.ino (written_inode (inode_at image file.ino) now))))
 
--- the sectors that a write puts: each that it touches, where the inode has it, with what stands there, zeros past the size, and the bytes
-abbrev pub direct_puts : Image → Inode → ℕ → List ℕ → List (ℕ × List ℕ)
-direct_puts image n offset bytes =
-    map (λ k. (get_or n.direct k 0, spliced offset bytes k (clipped n.size k (sector_at image (get_or n.direct k 0))))) (touched offset (length bytes))
+-- the sectors that a write puts: each that it touches, with what stands there, zeros past the size, and the bytes
+abbrev pub write_puts : Image → Inode → ℕ → List ℕ → List (ℕ × List ℕ)
+write_puts image n offset bytes =
+    map (λ k. (sector_in image n k, spliced offset bytes k (clipped n.size k (sector_at image (sector_in image n k))))) (touched offset (length bytes))

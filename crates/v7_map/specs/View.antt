@@ -5,7 +5,8 @@ use Rattle.v7_layout.specs.declared.inode.Inode.{Inode}
 use Rattle.files_model.specs.declared.attributes.Kind.{Kind}
 use Rattle.files_model.specs.declared.attributes.Kind.TheVariants.{Regular, Directory, Link}
 use Rattle.files_model.specs.Files.{Node, Files, Sectors, sectors_of, clipped, tabulated}
-use Rattle.v7_map.specs.Image.{Image, sector_at, inode_at, is_read_only}
+use Rattle.stable.specs.Store.{Image}
+use Rattle.v7_map.specs.Image.{sector_at, inode_at, is_read_only}
 use Rattle.v7_map.specs.Frame.{Frame, Head, Place, Body, is_directory, frame}
 use Rattle.v7_map.specs.Tree.{Tree, tree, seen_slots, links, is_named}
 

@@ -2,7 +2,7 @@
 
 ghost use Rattle.std.specs.Prelude.{◌≡◌, ◌/◌};
 ghost use Rattle.v7_map.specs.View.{kind_of};
-ghost use Rattle.v7_map.specs.Stored.{is_current, stored_attr, lies_inside};
+ghost use Rattle.v7_map.specs.Stored.{is_current, stored_attr, limited};
 
 use files_model::{Attr, Kind};
 use v7_layout::Inode;
@@ -11,6 +11,9 @@ use v7_layout::Inode;
 const DIRECTORY: u16 = 4;
 
 const LINK: u16 = 10;
+
+/// The greatest size of a file in bytes, 138 sectors.
+const SIZE_LIMIT: u32 = 70_656;
 
 /// The kind of file that a mode says. On a volume that can be mended a used inode has no type but
 /// those of a directory, a link and a regular file.
@@ -49,24 +52,13 @@ pub fn attributes_of(ino: u32, inode: &Inode) -> Attr
     }
 }
 
-/// Whether a write of so many bytes from an offset on lies inside the file, in sectors whose
-/// addresses the inode itself has: it ends at or before the size, and touches no sector that is
-/// missing or past the first ten.
-pub fn lies_inside(inode: &Inode, offset: u32, count: u32) -> bool
-    ensures { result ≡ lies_inside inode.now offset count }
+/// The inode with a size that a file can have: one above 70,656 bytes is taken as 70,656. Nothing else
+/// changes. Where a volume can be mended each used inode is as before.
+pub fn with_limits(inode: &Inode) -> Inode
+    ensures { result ≡ limited inode.now }
 {
-    let end = u64::from(offset) + u64::from(count);
-    if end > u64::from(inode.size) {
-        return false;
+    Inode {
+        size: inode.size.min(SIZE_LIMIT),
+        ..*inode
     }
-    if count == 0 {
-        return true;
-    }
-    let past = end.div_ceil(512);
-    if past > 10 {
-        return false;
-    }
-    inode.direct[offset as usize / 512..past as usize]
-        .iter()
-        .all(|address| *address != 0)
 }

@@ -5,14 +5,15 @@ ghost use Rattle.files_model.specs.Files.{Node, live};
 ghost use Rattle.files_model.specs.Step.{step, changes, write_refusal};
 ghost use Rattle.files_model.specs.declared.attributes.FileId.{FileId};
 ghost use Rattle.files_model.specs.declared.credential.Cred.{Cred};
-ghost use Rattle.files_model.specs.declared.call.Call.TheVariants.{Write};
-ghost use Rattle.v7_map.specs.Image.{Image, IsImage, inode_at, inode_sector};
+ghost use Rattle.files_model.specs.declared.call.Call.TheVariants.{Getattr, Read, Write};
+ghost use Rattle.stable.specs.Store.{Image};
+ghost use Rattle.v7_map.specs.Image.{IsImage, inode_at, inode_sector};
 ghost use Rattle.v7_map.specs.Frame.{frame};
 ghost use Rattle.v7_map.specs.Weak.{IsWeak, IsStrong};
 ghost use Rattle.v7_map.specs.Damage.{damage};
 ghost use Rattle.v7_map.specs.View.{view};
 ghost use Rattle.v7_map.specs.Plan.{data_puts, written_inode, PutsInode};
-ghost use Rattle.v7_map.specs.Stored.{is_standing, refusal_in, write_answer, direct_puts};
+ghost use Rattle.v7_map.specs.Stored.{is_standing, getattr_answer, read_answer, write_refusal_in, write_answer, write_puts};
 ghost use Rattle.v7_map.specs.Plans.{IsPlanOf};
 
 /// The plan of a WRITE that is accepted inside its file: the touched sectors in rising order, each
@@ -29,15 +30,15 @@ pub fn write_is_planned()
 {}
 
 /// The same by the records: where the handle's inode stands and the records refuse nothing, the
-/// sectors that the inode itself has, each clipped and spliced, and then the inode are the plan.
+/// touched sectors where its addresses say, each clipped and spliced, and then the inode are the plan.
 pub fn write_is_put()
     ensures { (image : Image) (file : FileId) (offset : ℕ) (bytes : List ℕ) (cred : Cred) (now : ℕ) (inode_bytes : List ℕ)
         → IsStrong (frame image) → IsImage image
         → is_standing image file ≡ true
-        → refusal_in image file.ino cred offset (length bytes) ≡ None
+        → write_refusal_in image file.ino cred offset (length bytes) ≡ None
         → PutsInode image file.ino inode_bytes (written_inode (inode_at image file.ino) now)
         → IsPlanOf image ((Write file offset bytes, cred) ∷ []) now
-        (direct_puts image (inode_at image file.ino) offset bytes ++ (inode_sector file.ino, inode_bytes) ∷ []) }
+        (write_puts image (inode_at image file.ino) offset bytes ++ (inode_sector file.ino, inode_bytes) ∷ []) }
 {}
 
 /// What a WRITE answers, by the records: STALE, a refusal, or the stored attributes with its time.
@@ -45,6 +46,21 @@ pub fn write_is_answered()
     ensures { (image : Image) (file : FileId) (offset : ℕ) (bytes : List ℕ) (cred : Cred) (now : ℕ)
         → IsStrong (frame image)
         → (step (view image) (Write file offset bytes) cred now).0 ≡ write_answer image file offset (length bytes) cred now }
+{}
+
+/// What a GETATTR answers, by the records: STALE, or the stored attributes.
+pub fn getattr_is_answered()
+    ensures { (image : Image) (file : FileId) (cred : Cred) (now : ℕ)
+        → IsStrong (frame image)
+        → (step (view image) (Getattr file) cred now).0 ≡ getattr_answer image file }
+{}
+
+/// What a READ answers, by the records: STALE, a refusal, or the stored attributes and the bytes of
+/// the sectors where the inode's addresses say.
+pub fn read_is_answered()
+    ensures { (image : Image) (file : FileId) (offset count : ℕ) (cred : Cred) (now : ℕ)
+        → IsStrong (frame image)
+        → (step (view image) (Read file offset count) cred now).0 ≡ read_answer image file offset count cred }
 {}
 
 /// An image in which no test finds damage can be mended.

@@ -5,17 +5,24 @@ mod body;
 mod inode;
 mod laws;
 mod places;
+mod read;
+mod sector;
 mod super_block;
 mod write;
 
 pub use body::{clip, sectors_of, splice};
-pub use inode::{attributes_of, is_current, kind_of, lies_inside};
+pub use inode::{attributes_of, is_current, kind_of, with_limits};
 pub use laws::{
-    undamaged_is_weak, weak_is_undamaged, write_is_answered, write_is_planned, write_is_put,
+    getattr_is_answered, read_is_answered, undamaged_is_weak, weak_is_undamaged, write_is_answered,
+    write_is_planned, write_is_put,
 };
 pub use places::{inode_offset_of, inode_sector_of};
+pub use read::read_refusal_of;
+pub use sector::sector_of;
 pub use super_block::{has_inode, has_sizes, inodes_of};
 pub use write::write_refusal_of;
 
+#[cfg(test)]
+mod memory;
 #[cfg(test)]
 mod tests;

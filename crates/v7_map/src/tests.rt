@@ -1,8 +1,10 @@
 //! Numbers of a small volume that was worked by hand.
 
 use super::*;
+use crate::memory::Memory;
 use files_model::Kind;
 use std::test::Fail;
+use v7_layout::Inode;
 
 #[test]
 fn inodes_stand_eight_to_a_sector(rt: HostRuntime) -> Result<(), Fail> {
@@ -27,5 +29,41 @@ fn two_bytes_fall_into_two_sectors(rt: HostRuntime) -> Result<(), Fail> {
     clip(513, 1, &mut second);
     assert!(rt; second[0] == 89 && second[1] == 0 && second[511] == 0);
     assert!(rt; sectors_of(1024) == 2);
+    Ok(())
+}
+
+// Ten direct addresses in the inode, and 128 of four bytes in its single indirect block, sector 2.
+fn with_indirect_block() -> (Memory, Inode) {
+    let mut store = Memory {
+        sectors: [[0; 512]; 4],
+        puts: 0,
+    };
+    store.sectors[2][0] = 1;
+    store.sectors[2][7] = 255;
+    store.sectors[2][508] = 3;
+    let mut inode = Inode::read(&[0; 64]);
+    inode.direct[0] = 3;
+    inode.direct[1] = 4;
+    inode.direct[9] = 2;
+    inode.single = 2;
+    (store, inode)
+}
+
+#[test]
+fn addresses_stand_in_the_inode_and_in_its_indirect_block(rt: HostRuntime) -> Result<(), Fail> {
+    let (mut store, inode) = with_indirect_block();
+    // Sector 1 of the body and sector 11 have addresses past a store of four sectors.
+    for (index, sector) in [
+        (0, 3),
+        (1, 0),
+        (2, 0),
+        (9, 2),
+        (10, 1),
+        (11, 0),
+        (137, 3),
+        (138, 0),
+    ] {
+        assert!(rt; sector_of(&mut store, &inode, index) == Ok(sector));
+    }
     Ok(())
 }

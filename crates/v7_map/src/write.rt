@@ -1,15 +1,16 @@
 // A WRITE inside a file, by the records of its volume.
 
 ghost use Rattle.std.specs.Prelude.{◌≡◌};
-ghost use Rattle.v7_map.specs.Stored.{refusal_by};
+ghost use Rattle.v7_map.specs.Stored.{write_refusal_by};
 
-use crate::inode::{attributes_of, lies_inside};
+use crate::inode::attributes_of;
 use files_model::{Cred, Kind, Stat, Want, may};
 use v7_layout::Inode;
 
-/// The refusal of a WRITE of so many bytes to inode `ino` (RFC 1094 2.2.9), if any: ROFS on a
-/// read-only volume, ISDIR for a directory, NXIO for a link, ACCES where the caller may not write,
-/// FBIG where the bytes don't lie inside the file.
+/// The refusal of a WRITE of so many bytes to inode `ino` (RFC 1094 2.2.9) that comes without a look
+/// at its sectors, if any: ROFS on a read-only volume, ISDIR for a directory, NXIO for a link, ACCES
+/// where the caller may not write, FBIG where the bytes end past the file's size. A touched sector
+/// that is missing is FBIG too, and is found by `sector_of`.
 pub fn write_refusal_of(
     read_only: bool,
     ino: u32,
@@ -18,7 +19,7 @@ pub fn write_refusal_of(
     offset: u32,
     count: u32,
 ) -> Option<Stat>
-    ensures { result ≡ refusal_by read_only ino inode.now cred.now offset count }
+    ensures { result ≡ write_refusal_by read_only ino inode.now cred.now offset count }
 {
     let attributes = attributes_of(ino, inode);
     if read_only {
@@ -29,7 +30,7 @@ pub fn write_refusal_of(
         Some(Stat::Nxio)
     } else if !may(cred, &attributes, Want::Write) {
         Some(Stat::Acces)
-    } else if !lies_inside(inode, offset, count) {
+    } else if u64::from(offset) + u64::from(count) > u64::from(inode.size) {
         Some(Stat::Fbig)
     } else {
         None

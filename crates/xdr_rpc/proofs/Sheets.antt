@@ -2,6 +2,7 @@
 use Rattle.std.proofs.Common.{◌≡◌, ℕ, zero, suc, ◌+◌, ◌-◌, ◌*◌, ◌<◌, ◌≤◌, List, [], ◌∷◌, ◌++◌, length, get_or, take, drop, replicate, refl, sym, ap, subst, ◌∙◌, append_assoc, add-one, length-append, drop_of_length-le, arith}
 use Rattle.std.specs.List.{flat_map}
 use Rattle.std.proofs.lemmas.List.{append-nil, length-replicate, take-replicate}
+use Rattle.std.proofs.lemmas.Grind.{flat_map-append}
 use Rattle.byteorder.specs.Endian.{big_bytes}
 use Rattle.xdr_rpc.specs.Words.{Written, added, padding, words, opaque_bytes}
 
@@ -91,3 +92,8 @@ opaque_written start one two three bytes e1 e2 e3 =
     let n : ℕ = padding (length bytes) in
     let front : List ℕ = words (length bytes ∷ []) in
     both_written start two three (front ++ bytes) (replicate n 0) (both_written start one two front bytes e1 e2) (e3 ∙ ap (added two) (zeros_are n (padding_short (length bytes))))
+
+-- words of two lists
+pub words-append : (xs ys : List ℕ) → words (xs ++ ys) ≡ words xs ++ words ys
+unfolding words
+words-append xs ys = flat_map-append (big_bytes 4) xs ys

@@ -7,11 +7,13 @@ mod datagram;
 mod header;
 mod reading;
 mod sheet;
+mod short_reply;
 
 pub use call::{Data9, Read, ReplyBytes, RpcCall};
 pub use datagram::read_call;
 pub use reading::{fixed_at, opaque_at, word_at};
 pub use sheet::Sheet;
+pub use short_reply::ShortReply;
 
 #[cfg(test)]
 mod tests;

@@ -1,9 +1,9 @@
 //! Each device call of the worked WRITE fails, or is cut; then the rig crashes and is served again.
 use crate::tests::outside::{has_said, has_sent, rig_of, served};
-use crate::tests::volume::{
+use crate::tests::test_volume::{
     FRESH, Shape, WRITTEN, is_volume, rig, status_reply, worked_reply, worked_write,
 };
-use rig::memory::MemRig;
+use rig_mem::MemRig;
 use std::alloc::Global;
 use std::test::Fail;
 
@@ -19,9 +19,10 @@ const BOTH: Shape = Shape {
     ..FRESH
 };
 
-// The number of a device call, whether it leaves the newer state, and what is on the disk then. Call 1 is the opening's;
-// calls 2 to 5 read the super-block, the inode and the data; calls 6 to 8 write sectors 5, 6 and 2.
-const ROWS: [(u64, bool, Shape); 16] = [
+// The number of a device call, whether it leaves the newer state, and what is on the disk then. Calls 1 and 2 are the
+// opening's: the super-block and the root's inode. Calls 3 to 6 read the super-block, the inode and both sectors of data;
+// calls 7 to 9 write sectors 5, 6 and 2.
+const ROWS: [(u64, bool, Shape); 18] = [
     (1, false, FRESH),
     (1, true, FRESH),
     (2, false, FRESH),
@@ -33,17 +34,22 @@ const ROWS: [(u64, bool, Shape); 16] = [
     (5, false, FRESH),
     (5, true, FRESH),
     (6, false, FRESH),
-    (6, true, FIRST),
-    (7, false, FIRST),
-    (7, true, BOTH),
-    (8, false, BOTH),
-    (8, true, WRITTEN),
+    (6, true, FRESH),
+    (7, false, FRESH),
+    (7, true, FIRST),
+    (8, false, FIRST),
+    (8, true, BOTH),
+    (9, false, BOTH),
+    (9, true, WRITTEN),
 ];
+
+// The last call of the opening.
+const OPENED: u64 = 2;
 
 // A rig that is served the worked WRITE, then crashes, and is served it again: both times it is as it has to be.
 fn is_kept(alloc: Global, rig: MemRig, number: u64, shape: Shape) -> Result<bool, Fail> {
     let (status, host) = served(alloc, rig, &worked_write())?;
-    let told = if number == 1 {
+    let told = if number <= OPENED {
         status == 74 && has_said(&host, &["device failed on volume 0"])
     } else {
         status == 0 && has_sent(&host, &status_reply(5))
@@ -95,7 +101,7 @@ fn a_cut_leaves_each_sector_old_or_new(rt: HostRuntime) -> Result<(), Fail> {
 fn what_was_answered_is_kept(rt: HostRuntime) -> Result<(), Fail> {
     let alloc = rt.alloc();
     let mut rig = rig(alloc, FRESH)?;
-    rig.stop_at(9, false);
+    rig.stop_at(10, false);
     let (status, host) = served(alloc, rig, &worked_write())?;
     assert_eq!(rt; status, 0);
     assert!(rt; has_sent(&host, &worked_reply()));

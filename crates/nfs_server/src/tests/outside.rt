@@ -1,12 +1,22 @@
 //! A run over one rig and one post in memory.
-use crate::serve;
-use crate::tests::volume::CLIENT;
-use rig::memory::{MemClock, MemEvent, MemHost, MemLink, MemRig, SentDatagram, StillPauser};
+use crate::direct::Direct;
+use crate::tests::test_volume::CLIENT;
+use crate::{Cells, serve};
 use rig::{Packet, Post};
+use rig_mem::{MemClock, MemEvent, MemHost, MemLink, MemRig, SentDatagram, StillPauser};
 use std::alloc::Global;
 use std::test::Fail;
+use volume::Volume;
 
 pub type Host = MemHost<MemRig, StillPauser>;
+
+/// The volume of a rig, if it can be opened.
+pub fn cells(alloc: Global, rig: MemRig) -> Option<Cells<Direct<MemRig>>> {
+    match Volume::open(alloc, Direct::new(rig)) {
+        Ok(volume) => Some(Cells { alloc, volume }),
+        Err(_) => None,
+    }
+}
 
 /// A datagram of the client.
 pub fn datagram(bytes: &[u8]) -> MemEvent {
@@ -51,10 +61,15 @@ pub fn run(alloc: Global, words: &[&str], host: &mut Host) -> Result<u8, Fail> {
 
 /// A host with one rig, after it was served this one datagram, and the status.
 pub fn served(alloc: Global, rig: MemRig, bytes: &[u8]) -> Result<(u8, Host), Fail> {
-    let mut rigs = Vec::new(alloc);
-    rigs.push(rig)?;
     let mut events = Vec::new(alloc);
     events.push(datagram(bytes))?;
+    served_all(alloc, rig, events)
+}
+
+/// A host with one rig, after it was served these events, and the status.
+pub fn served_all(alloc: Global, rig: MemRig, events: Vec<MemEvent>) -> Result<(u8, Host), Fail> {
+    let mut rigs = Vec::new(alloc);
+    rigs.push(rig)?;
     let mut host = host(alloc, rigs, Some(events))?;
     let status = run(alloc, &["d"], &mut host)?;
     Ok((status, host))
@@ -85,6 +100,27 @@ fn is_sent(sent: &[SentDatagram], wanted: &[u8]) -> bool {
 pub fn has_sent(host: &Host, wanted: &[u8]) -> bool {
     match host.posts() {
         [back] => is_sent(back.1.link.sent(), wanted),
+        _ => false,
+    }
+}
+
+// Whether these are datagrams to the client, with these bytes in order.
+fn are_sent(sent: &[SentDatagram], wanted: &[Vec<u8>]) -> bool {
+    if sent.len() != wanted.len() {
+        return false;
+    }
+    for (one, bytes) in sent.iter().zip(wanted.iter()) {
+        if one.to != CLIENT || one.bytes.bytes() != bytes.as_slice() {
+            return false;
+        }
+    }
+    true
+}
+
+/// Whether one post came back, and exactly these were sent over it in order, to the client.
+pub fn has_sent_all(host: &Host, wanted: &[Vec<u8>]) -> bool {
+    match host.posts() {
+        [back] => are_sent(back.1.link.sent(), wanted),
         _ => false,
     }
 }

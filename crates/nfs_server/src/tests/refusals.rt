@@ -1,6 +1,6 @@
 //! The refusals of a WRITE.
 use crate::tests::outside::{has_said, has_sent, served};
-use crate::tests::volume::{FRESH, Shape, is_volume, rig, status_reply, write_with};
+use crate::tests::test_volume::{FRESH, Shape, is_volume, rig, status_reply, write_with};
 use std::test::Fail;
 
 const READ_ONLY: Shape = Shape {

@@ -1,7 +1,7 @@
 //! Statuses and lines.
 use crate::tests::outside::{Host, datagram, has_said, has_sent, host, run, served};
-use crate::tests::volume::{FRESH, WRITTEN, is_volume, rig, worked_reply, worked_write};
-use rig::memory::{MemEvent, MemRig};
+use crate::tests::test_volume::{FRESH, WRITTEN, is_volume, rig, worked_reply, worked_write};
+use rig_mem::{MemEvent, MemRig};
 use std::alloc::Global;
 use std::test::Fail;
 

@@ -1,10 +1,10 @@
 //! Single turns, and what each says.
 use crate::taking::turn;
-use crate::tests::outside::{datagram, post};
-use crate::tests::volume::{CLIENT, FRESH, WRITTEN, is_volume, rig, worked_write, write_with};
-use crate::{Cells, DropCause, ServerPass, Turn};
-use rig::memory::{MemClock, MemEvent, StillPauser};
+use crate::tests::outside::{cells, datagram, post};
+use crate::tests::test_volume::{CLIENT, FRESH, WRITTEN, is_volume, rig, worked_write, write_with};
+use crate::{DropCause, ServerPass, Turn};
 use rig::{Address, Event, Failed, Link, Packet, Post};
+use rig_mem::{MemClock, MemEvent, StillPauser};
 use std::test::Fail;
 
 #[test]
@@ -18,9 +18,8 @@ fn each_event_has_its_turn(rt: HostRuntime) -> Result<(), Fail> {
     events.push(datagram(&worked_write()))?;
     let mut post = post(alloc, events)?;
     let mut pass = ServerPass::new(0, 0);
-    let mut cells = Cells {
-        alloc,
-        rig: rig(alloc, FRESH)?,
+    let Some(mut cells) = cells(alloc, rig(alloc, FRESH)?) else {
+        panic!(rt; "the volume wasn't opened");
     };
     for wanted in [
         Turn::Dropped(DropCause::NoMeaning),
@@ -80,9 +79,8 @@ fn what_is_not_sent_is_done(rt: HostRuntime) -> Result<(), Fail> {
         pauser: StillPauser::new(),
     };
     let mut pass = ServerPass::new(0, 0);
-    let mut cells = Cells {
-        alloc,
-        rig: rig(alloc, FRESH)?,
+    let Some(mut cells) = cells(alloc, rig(alloc, FRESH)?) else {
+        panic!(rt; "the volume wasn't opened");
     };
     assert_eq!(rt;
         turn(&mut cells, &mut post, &mut pass),
@@ -96,6 +94,6 @@ fn what_is_not_sent_is_done(rt: HostRuntime) -> Result<(), Fail> {
         ),
         (1, 0, 1)
     );
-    assert!(rt; is_volume(alloc, &cells.rig, WRITTEN)?);
+    assert!(rt; is_volume(alloc, &cells.volume.into_store().into_rig(), WRITTEN)?);
     Ok(())
 }

@@ -1,8 +1,12 @@
-use Rattle.std.proofs.Common.{arith}
-use Rattle.files_model.specs.declared.reply.Reply.TheVariants.{Refused}
-use Rattle.files_model.specs.declared.reply.Stat.TheVariants as stat
-use Rattle.nfs2_wire.proofs.Lengths.{length-bytes_of}
+use Rattle.std.proofs.Common.{◌∙◌, ◌∷◌, [], ap}
+use Rattle.xdr_rpc.specs.Words.{words}
+use Rattle.xdr_rpc.proofs.Sheets.{words-append}
+use Rattle.nfs2_wire.specs.Replies.{bytes_of, result_bytes}
 use Rattle.nfs2_wire.proofs.reply.stale_reply.Goals as goal
 
-pub write_reply-requires : goal.write_reply-requires
-write_reply-requires c = omega (arith, length-bytes_of c.args.xid (Refused stat.Stale) 0)
+pub returns : goal.returns
+unfolding bytes_of result_bytes
+returns c =
+    c.of_words.ensures
+    ∙ ap (λ n. words (c.args.xid ∷ 1 ∷ 0 ∷ 0 ∷ 0 ∷ 0 ∷ n ∷ [])) c.status_number.ensures
+    ∙ words-append (c.args.xid ∷ 1 ∷ 0 ∷ 0 ∷ 0 ∷ 0 ∷ []) (70 ∷ [])

@@ -1,7 +1,7 @@
 use Rattle.std.proofs.Common.{[], ◌∷◌, sym, subst}
 use Rattle.nfs_server.specs.Lines.{Said}
 use Rattle.nfs_server.specs.Run.{opening_line}
-use Rattle.nfs_server.specs.declared.opening.OpenFault.{OpenFault}
+use Rattle.volume.specs.declared.fault.OpenFault.{OpenFault}
 use Rattle.nfs_server.proofs.running.give_up.Goals as goal
 
 pub returns-in-Sizes-clause-said : goal.returns-in-Sizes-clause-said

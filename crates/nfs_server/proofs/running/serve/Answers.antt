@@ -1,5 +1,5 @@
 use Rattle.std.proofs.Common.{arith, [], ◌∷◌, Err, map, string_bytes, refl, sym, ap, ◌∙◌, inl}
-use Rattle.rig.specs.Counts.{Rose}
+use Rattle.stable.specs.Counts.{Rose}
 use Rattle.nfs_server.specs.Run.{Usage, NoRig}
 use Rattle.nfs_server.proofs.Loans.{loan_none, loan_one, loan_within, refusal_failed, refusal_not, rig_understood}
 use Rattle.nfs_server.proofs.Saying.{said_later}

@@ -1,13 +1,14 @@
 use Rattle.std.proofs.Common.{◌≡◌, refl, ◌∙◌, arith}
 use Rattle.files_model.specs.History.{Item}
 use Rattle.nfs2_wire.specs.Replies.{longest_of}
+use Rattle.volume.specs.Mounted.{store_of}
 use Rattle.nfs_server.proofs.OneHold.{reply_fits, refusal_fits, served_reply, served_io, served_nothing}
 use Rattle.nfs_server.proofs.serving.serve_call.Goals as goal
 
 pub write_reply-requires : goal.write_reply-requires
 write_reply-requires g c =
     let room : c.in-Ok.room ≡ longest_of c.args.call.now = c.in-Ok.ensures ∙ c.longest.ensures in
-    let fits = reply_fits c.args.xid c.args.call.now c.in-Reply.reply c.requires c.in-Reply.ensures.form in omega (arith, room, fits)
+    let fits = reply_fits c.args.xid c.args.call.now c.in-Reply.reply c.requires c.in-Reply.ensures.applied.form in omega (arith, room, fits)
 
 pub write_reply-requires-in-Io : goal.write_reply-requires-in-Io
 write_reply-requires-in-Io g c =
@@ -17,14 +18,14 @@ write_reply-requires-in-Io g c =
 pub returns-in-Reply : goal.returns-in-Reply
 returns-in-Reply g c =
     let item : Item = record { xid = c.args.xid; from = c.args.from; call = c.args.call.now; cred = c.args.cred.now } in
-    served_reply g.met.R.Rig.clocked c.args.rig.now c.apply.new.rig c.args.number c.args.now item c.requires c.in-Reply.reply _ refl c.write_reply.ensures c.in-Reply.ensures
+    served_reply g.met.S.Stable.clocked (store_of c.args.volume.now) (store_of c.apply.new.self) c.args.number c.args.now item c.requires c.in-Reply.reply _ refl c.write_reply.ensures c.in-Reply.ensures.applied
 
 pub returns-in-Io : goal.returns-in-Io
 returns-in-Io g c =
     let item : Item = record { xid = c.args.xid; from = c.args.from; call = c.args.call.now; cred = c.args.cred.now } in
-    served_io g.met.R.Rig.clocked c.args.rig.now c.apply.new.rig c.args.number c.args.now item c.requires _ refl c.write_reply-in-Io.ensures c.in-Io.ensures
+    served_io g.met.S.Stable.clocked (store_of c.args.volume.now) (store_of c.apply.new.self) c.args.number c.args.now item c.requires _ refl c.write_reply-in-Io.ensures c.in-Io.ensures.applied
 
 pub returns-in-NoMemory : goal.returns-in-NoMemory
 returns-in-NoMemory g c =
     let item : Item = record { xid = c.args.xid; from = c.args.from; call = c.args.call.now; cred = c.args.cred.now } in
-    served_nothing g.met.R.Rig.clocked c.args.rig.now c.apply.new.rig c.args.number c.args.now item c.requires c.in-NoMemory.ensures
+    served_nothing g.met.S.Stable.clocked (store_of c.args.volume.now) (store_of c.apply.new.self) c.args.number c.args.now item c.requires c.in-NoMemory.ensures.applied

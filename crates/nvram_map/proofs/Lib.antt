@@ -1,0 +1,5 @@
+mod Fitting
+mod Freeing
+pub mod Listed
+pub mod Overlaid
+pub mod Shapes

@@ -1,0 +1,5 @@
+pub mod Boards
+pub mod Formats
+pub mod Judged
+pub mod Overlay
+pub mod Words

@@ -1,0 +1,6 @@
+pub mod Slots
+pub mod Order
+pub mod Entries
+pub mod Made
+pub mod Board
+pub mod Cache

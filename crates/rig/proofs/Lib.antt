@@ -1,5 +1,0 @@
-pub mod Clocked
-mod Recorded
-pub mod Results
-mod Sectors
-mod Taking

@@ -1,0 +1,4 @@
+mod Raising
+mod Recorded
+mod Sectors
+mod Taking

@@ -1,0 +1,7 @@
+pub mod Clocks
+pub mod Gates
+pub mod Histories
+pub mod Images
+pub mod Links
+pub mod Rigs
+pub mod Troubles

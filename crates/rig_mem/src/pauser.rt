@@ -1,0 +1,23 @@
+ghost use Rattle.std.specs.Prelude.{◌≡◌};
+
+use rig::{Pauser, Point};
+
+/// Never waits, and has nothing to tell.
+#[derive(Drop)]
+pub struct StillPauser;
+
+impl StillPauser {
+    pub fn new() -> StillPauser {
+        StillPauser
+    }
+}
+
+impl Pauser for StillPauser {
+    fn pause(&mut self)
+        ensures { self.new ≡ self.old }
+    {}
+
+    fn gate(&mut self, _point: Point)
+        ensures { self.new ≡ self.old }
+    {}
+}

@@ -1,0 +1,5 @@
+pub mod Counts
+pub mod Moments
+pub mod Puts
+pub mod States
+pub mod Store

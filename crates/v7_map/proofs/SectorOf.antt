@@ -1,0 +1,139 @@
+-- Where the sectors of a body stand.
+use Rattle.std.proofs.Common.{◌≡◌, ◌≢◌, ℕ, zero, suc, ◌+◌, ◌-◌, ◌*◌, ◌/◌, ◌<◌, ◌≤◌, min, Bool, true, false, cond, not, ◌&&◌, ◌==◌, [], get_or, length, refl, sym, ap, subst, ◌∙◌, arith, ⊎_elim, ltb, eq-eqb}
+use Rattle.std.proofs.lemmas.Bool.{cases_lt, cases_eq, lt-ltb, le-ltb, ne_eqb}
+use Rattle.std.proofs.lemmas.List.Folds.{list_all_at}
+use Rattle.std.proofs.lemmas.List.FromFn.{get_or-range_with_len, length-range_with_len}
+use Rattle.std.specs.List.{range_with_len, list_all}
+use Rattle.stable.specs.Moments.{IsClocked}
+use Rattle.stable.specs.Store.{Image, HasSectors}
+use Rattle.v7_layout.specs.declared.inode.Inode.{Inode}
+use Rattle.v7_layout.specs.Numbers.{field}
+use Rattle.files_model.specs.Files.{sectors_of}
+use Rattle.files_model.specs.Step.{touched}
+use Rattle.v7_map.specs.Image.{sector_at, inode_at}
+use Rattle.v7_map.specs.Frame.{Place, Body, Single, head_of, place_of, address_of, frame, listed}
+use Rattle.v7_map.specs.Weak.{IsWeak}
+use Rattle.v7_map.specs.Stored.{address_within, sector_in, limited, has_touched}
+use Rattle.v7_map.proofs.Ranges.{address-inside}
+
+-- an address of the store is taken as it is, and so is none
+pub within-stays : (sectors a : ℕ) → a < sectors → address_within sectors a ≡ a
+within-stays sectors a lt z = cond (lt-ltb a sectors lt z) a 0
+
+pub within-none : (sectors a : ℕ) → a ≡ 0 → address_within sectors a ≡ 0
+within-none sectors a none = ap (address_within sectors) none ∙ either (ltb 0 sectors)
+  where
+    either : (b : Bool) → ◌≡◌ {A = ℕ} (cond b 0 0) 0
+    either true = refl
+    either false = refl
+
+pub within-below : (sectors a : ℕ) → address_within sectors a ≢ 0 → address_within sectors a < sectors
+within-below sectors a some = ⊎_elim
+    (λ (lt : a < sectors). subst (λ z. z < sectors) (sym (within-stays sectors a lt)) lt)
+    (λ (ge : sectors ≤ a). absurd (some (λ z. cond (le-ltb a sectors ge z) a 0)))
+    (cases_lt a sectors)
+
+-- what stands in a block of addresses
+pub listed-some : (image : Image) (block n : ℕ) → block ≢ 0 → listed image block n ≡ field (sector_at image block) (4 * n) 4
+listed-some image block n some z = cond (ne_eqb block 0 some z) 0 (field (sector_at image block) (4 * n) 4)
+
+module _ (image : Image) (n : Inode) (k : ℕ) where
+  -- one of the first ten
+  pub sector_in-direct : k < 10 → sector_in image n k ≡ address_within (length image) (get_or n.direct k 0)
+  unfolding sector_in
+  sector_in-direct lt z = address_within (length image) (cond (lt-ltb k 10 lt z) (get_or n.direct k 0) (cond (ltb k 138) (listed image (address_within (length image) n.single) (k - 10)) 0))
+
+  -- one of the next 128
+  pub sector_in-single : 10 ≤ k → k < 138 → sector_in image n k ≡ address_within (length image) (listed image (address_within (length image) n.single) (k - 10))
+  unfolding sector_in
+  sector_in-single low high z = address_within (length image) (cond (le-ltb k 10 low z) (get_or n.direct k 0) (cond (lt-ltb k 138 high z) (listed image (address_within (length image) n.single) (k - 10)) 0))
+
+  -- past these
+  pub sector_in-past : 138 ≤ k → sector_in image n k ≡ 0
+  unfolding sector_in
+  sector_in-past high =
+      (λ z. address_within (length image) (cond (le-ltb k 10 (omega arith) z) (get_or n.direct k 0) (cond (le-ltb k 138 high z) (listed image (address_within (length image) n.single) (k - 10)) 0)))
+      ∙ within-none (length image) 0 refl
+
+  -- without an indirect block
+  pub sector_in-no_single : 10 ≤ k → address_within (length image) n.single ≡ 0 → sector_in image n k ≡ 0
+  sector_in-no_single low none = ⊎_elim
+      (λ (high : k < 138). sector_in-single low high ∙ within-none (length image) _ (ap (λ b. listed image b (k - 10)) none))
+      (λ (past : 138 ≤ k). sector_in-past past)
+      (cases_lt k 138)
+
+  -- where there is one, it is a sector of the image
+  pub sector_in-within : sector_in image n k ≢ 0 → sector_in image n k < length image
+  unfolding sector_in
+  sector_in-within some = within-below (length image) _ some
+
+-- in an image that can be mended
+module _ (image : Image) (weak : IsWeak (frame image)) (i : ℕ) (used : not ((inode_at image i).mode == 0) ≡ true) where
+  place-is : (p : Place) → (frame image).address i p ≡ place_of image (head_of (inode_at image i)) p
+  unfolding frame address_of
+  place-is p z = cond (used z) (place_of image (head_of (inode_at image i)) p) 0
+
+  address-stays : (p : Place) → address_within (length image) ((frame image).address i p) ≡ (frame image).address i p
+  address-stays p = ⊎_elim
+      (λ (none : (frame image).address i p ≡ 0). within-none (length image) _ none ∙ sym none)
+      (λ (some : (frame image).address i p ≢ 0). within-stays (length image) _ (address-inside image weak i p some).2)
+      (cases_eq ((frame image).address i p) 0)
+
+  single-stays : (inode_at image i).single ≡ address_within (length image) (inode_at image i).single
+  single-stays = sym (place-is Single) ∙ sym (address-stays Single) ∙ ap (address_within (length image)) (place-is Single)
+
+  -- the block of each sector of a used inode is where its addresses say
+  pub sector_in-address : (k : ℕ) → (frame image).address i (Body k) ≡ sector_in image (inode_at image i) k
+  unfolding sector_in
+  sector_in-address k =
+      sym (address-stays (Body k)) ∙ ap (address_within (length image)) (place-is (Body k))
+      ∙ ap (λ (b : ℕ). address_within (length image) (cond (ltb k 10) (get_or (inode_at image i).direct k 0) (cond (ltb k 138) (listed image b (k - 10)) 0))) single-stays
+
+  -- its size is within the limit
+  pub limited-same : limited (inode_at image i) ≡ inode_at image i
+  unfolding frame
+  limited-same =
+      let within = (weak.good i used).length in
+      let size : min (inode_at image i).size 70656 ≡ (inode_at image i).size = omega arith in
+      λ z. record (inode_at image i) { size = size z }
+
+-- ---- touched sectors
+
+pub touched-some : (offset count : ℕ) → count ≢ 0 → touched offset count ≡ range_with_len (offset / 512) (sectors_of (offset + count) - offset / 512)
+unfolding touched
+touched-some offset count some z = cond (ne_eqb count 0 some z) [] (range_with_len (offset / 512) (sectors_of (offset + count) - offset / 512))
+
+pub touched-none : (offset count : ℕ) → count ≡ 0 → touched offset count ≡ []
+unfolding touched
+touched-none offset count none z = cond (eq-eqb count 0 none z) [] (range_with_len (offset / 512) (sectors_of (offset + count) - offset / 512))
+
+all-range : (p : ℕ → Bool) (a m : ℕ) → ((k : ℕ) → a ≤ k → k < a + m → p k ≡ true) → list_all p (range_with_len a m) ≡ true
+all-range p a zero h = refl
+all-range p a (suc m) h = (λ z. h a (omega arith) (omega arith) z && list_all p (range_with_len (a + 1) m)) ∙ all-range p (a + 1) m (λ k low high. h k (omega arith) (omega arith))
+
+module _ (image : Image) (n : Inode) (offset count : ℕ) where
+  -- one of them is missing
+  pub touched-missing : (k : ℕ) → count ≢ 0 → offset / 512 ≤ k → k < sectors_of (offset + count) → sector_in image n k ≡ 0 → has_touched image n offset count ≡ false
+  unfolding has_touched
+  touched-missing k some low high none =
+      let first : ℕ = offset / 512 in
+      let many : ℕ = sectors_of (offset + count) - first in
+      let there : k - first < many = omega arith in
+      let is : get_or (range_with_len first many) (k - first) 0 ≡ k = get_or-range_with_len first many (k - first) 0 there ∙ omega arith in
+      ap (list_all (λ j. not (sector_in image n j == 0))) (touched-some offset count some)
+      ∙ list_all_at (λ j. not (sector_in image n j == 0)) (range_with_len first many) (k - first) 0 (subst (λ l. k - first < l) (sym (length-range_with_len first many)) there)
+      (ap (λ j. not (sector_in image n j == 0)) is ∙ (λ z. not (none z == 0)))
+
+  -- none of them is
+  pub touched-all : ((k : ℕ) → offset / 512 ≤ k → k < sectors_of (offset + count) → sector_in image n k ≢ 0) → has_touched image n offset count ≡ true
+  unfolding has_touched
+  touched-all all = ⊎_elim
+      (λ (none : count ≡ 0). ap (list_all (λ j. not (sector_in image n j == 0))) (touched-none offset count none))
+      (λ (some : count ≢ 0). ap (list_all (λ j. not (sector_in image n j == 0))) (touched-some offset count some)
+      ∙ all-range (λ j. not (sector_in image n j == 0)) (offset / 512) _ (λ k low high z. not (ne_eqb (sector_in image n k) 0 (all k low (omega arith)) z)))
+      (cases_eq count 0)
+
+-- an image that is told has as many sectors as its store
+pub told-size : {S : Type 0} {tells : Type 0} {image : S → Image} {moment : S → ℕ} {left_since : S → ℕ → Image → Type 0} (sectors : S → ℕ) → IsClocked tells image moment left_since
+    → ((s : S) (t : ℕ) (i : Image) → left_since s t i → HasSectors (sectors s) i) → (s : S) → tells → length (image s) ≡ sectors s
+told-size {S} {tells} {image} {moment} sectors clocked shape s told = (shape s (moment s) (image s) (clocked.now s (moment s) told (omega arith))).size

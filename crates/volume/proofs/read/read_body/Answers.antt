@@ -1,0 +1,50 @@
+use Rattle.std.proofs.Common.{rules, arith, ◌≡◌, ◌+◌, ◌-◌, ◌*◌, ◌++◌, min, max, take, drop, ap, sym, ◌∙◌}
+use Rattle.files_model.specs.Step.{most_read}
+use Rattle.v7_map.specs.Stored.{stored_sector, stored_content}
+use Rattle.volume.proofs.Reading.{read_whole, read_more}
+use Rattle.volume.proofs.read.read_body.Goals as goal
+
+pub returns-then-offset-end-clause-read : goal.returns-then-offset-end-clause-read
+returns-then-offset-end-clause-read g c = λ tells whole.
+    let image = g.S.Stable.image c.args.store.now in
+    let n = c.args.inode.now in
+    let end : c.min-end.result ≡ min (c.args.offset + min c.args.count most_read) n.size = omega arith in
+    let none : 0 ≡ c.min-end.result - c.args.offset = omega arith in
+    c.new.ensures ∙ c.in_ok-bytes.ensures.items
+    ∙ ap (λ m. take m (drop c.args.offset (stored_content image n))) none
+    ∙ read_whole image n whole c.args.offset c.args.count c.min-end.result end
+
+pub loop-index-preserved : goal.loop-index-preserved
+loop-index-preserved g c =
+    let S = g.S.Stable in
+    let i = c.loop-index.invariant in
+    let image = S.image c.args.store.now in
+    let n = c.args.inode.now in
+    record {
+      read = λ tells whole.
+          let next : 512 * (c.loop-index.index + 1) ≡ 512 * c.loop-index.index + 512 = omega arith in
+          c.in_ok-add_part.ensures.added tells
+          ∙ (λ z. i.read tells whole z ++ take (min c.min-end.result (512 * c.loop-index.index + 512) - max c.args.offset (512 * c.loop-index.index)) (drop (max c.args.offset (512 * c.loop-index.index) - 512 * c.loop-index.index) (stored_sector (i.image z) n c.loop-index.index)))
+          ∙ sym (read_more image n whole c.args.offset c.min-end.result c.loop-index.index (omega arith) (omega arith) (omega arith) (omega arith))
+          ∙ ap (λ m. take (min m c.min-end.result - c.args.offset) (drop c.args.offset (stored_content image n))) (sym next);
+      long =
+          let more = c.in_ok-add_part.ensures.longer in
+          let was = i.long in
+          omega arith;
+      image = search rules;
+      crash = search rules;
+      opens = search rules;
+      faults = search rules;
+      sectors = search rules;
+      snapshot = search rules;
+    }
+
+pub returns-clause-read : goal.returns-clause-read
+returns-clause-read g c = λ tells whole.
+    let image = g.S.Stable.image c.args.store.now in
+    let n = c.args.inode.now in
+    let end : c.min-end.result ≡ min (c.args.offset + min c.args.count most_read) n.size = omega arith in
+    let all : min (512 * c.loop-index.index) c.min-end.result - c.args.offset ≡ c.min-end.result - c.args.offset = omega arith in
+    c.new-2.ensures ∙ c.loop-index.invariant.read tells whole
+    ∙ ap (λ m. take m (drop c.args.offset (stored_content image n))) all
+    ∙ read_whole image n whole c.args.offset c.args.count c.min-end.result end

@@ -1,0 +1,46 @@
+-- What the opening of a volume finds (docs/FORMATS.md, super-block).
+use Rattle.std.specs.Prelude.{◌≡◌, ◌≤◌, ℕ, true, false, List, Result, Ok, Err}
+use Rattle.files_model.specs.declared.attributes.FileId.{FileId}
+use Rattle.stable.specs.Moments.{LeavesOnly}
+use Rattle.stable.specs.Store.{Image, Same, StaysOpenable}
+use Rattle.stable.specs.declared.snapshot.Snapshot.{Snapshot}
+use Rattle.v7_layout.specs.Numbers.{part}
+use Rattle.v7_map.specs.Damage.{Sizes, passes}
+use Rattle.v7_map.specs.Frame.{frame}
+use Rattle.v7_map.specs.Image.{sector_at, inode_at}
+use Rattle.volume.specs.declared.fault.OpenFault.{OpenFault}
+use Rattle.volume.specs.declared.fault.OpenFault.TheVariants as fault
+use Rattle.volume.specs.declared.opening.Title.{Title}
+
+-- the name of the volume, bytes 434 to 439 of its super-block
+abbrev pub name_in : Image → List ℕ
+name_in image = part (sector_at image 1) 434 6
+
+-- the root directory, inode 2, with its generation
+abbrev pub root_in : Image → FileId
+root_in image = record { ino = 2; generation = (inode_at image 2).generation }
+
+-- a volume has sizes that can be, which is the first test of damage, and this name and this root
+pub record IsVolume (image : Image) (name : List ℕ) (root : FileId) : Type 0 where
+  pub sizes : passes (frame image) Sizes ≡ true
+  pub name_is : name ≡ name_in image
+  pub root_is : root ≡ root_in image
+
+-- there is none where the sizes can't be; an image of fewer than two sectors has none
+abbrev pub HasNoVolume : Image → OpenFault → Type 0
+HasNoVolume image fault.Sizes = passes (frame image) Sizes ≡ false
+HasNoVolume image fault.Failed = Unit {0}
+
+-- what was found
+abbrev pub Opens : Image → Result Title OpenFault → Type 0
+Opens image (Ok title) = IsVolume image title.name title.root
+Opens image (Err why) = HasNoVolume image why
+
+-- A store was only looked at.
+pub record Looked {S : Type 0} (image : S → Image) (moment : S → ℕ) (left_since : S → ℕ → Image → Type 0) (opens_since : S → ℕ → Type 0) (faults sector_count : S → ℕ) (snapshot_of : S → Snapshot) (old new : S) : Type 0 where
+  pub image_is : image new ≡ image old
+  pub crash : LeavesOnly moment left_since old new (Same (image old))
+  pub opens : StaysOpenable opens_since moment old new
+  pub later : faults old ≤ faults new
+  pub sectors : sector_count new ≡ sector_count old
+  pub snapshot : snapshot_of new ≡ snapshot_of old

@@ -1,0 +1,64 @@
+// Why a volume isn't opened, and why a part of a call isn't done.
+use files_model::NoMemory;
+use stable::Failed;
+use std::alloc::{AllocError, AllocFailed};
+
+/// Why a volume can't be opened. Nothing was changed.
+#[derive(Clone, Copy, Debug, PartialEq, Eq)]
+pub enum OpenFault {
+    /// There is no super-block, or the sizes that it tells can't be.
+    Sizes,
+    /// The device failed.
+    Failed,
+}
+
+/// Why bytes weren't read. Nothing was changed.
+#[derive(Clone, Copy, PartialEq, Eq)]
+pub enum ReadFault {
+    /// The device failed.
+    Failed,
+    /// There was no memory.
+    NoMemory,
+}
+
+impl From<Failed> for ReadFault {
+    ghost use Rattle.std.specs.Prelude.{◌≡◌};
+    ghost use Rattle.volume.specs.declared.fault.ReadFault.TheVariants as fault;
+
+    ghost from_gives = { λ _ e. e ≡ fault.Failed };
+
+    fn from(_: Failed) -> Self {
+        ReadFault::Failed
+    }
+}
+
+impl From<AllocError> for ReadFault {
+    ghost use Rattle.std.specs.Prelude.{◌≡◌};
+    ghost use Rattle.volume.specs.declared.fault.ReadFault.TheVariants as fault;
+
+    ghost from_gives = { λ _ e. e ≡ fault.NoMemory };
+
+    fn from(_: AllocError) -> Self {
+        ReadFault::NoMemory
+    }
+}
+
+/// Why there is no plan. Nothing was changed.
+#[derive(Clone, Copy, PartialEq, Eq)]
+pub enum BuildFault {
+    /// A sector that is touched is missing.
+    Missing,
+    /// The device failed.
+    Failed,
+}
+
+impl From<Failed> for BuildFault {
+    ghost use Rattle.std.specs.Prelude.{◌≡◌};
+    ghost use Rattle.volume.specs.declared.fault.BuildFault.TheVariants as fault;
+
+    ghost from_gives = { λ _ e. e ≡ fault.Failed };
+
+    fn from(_: Failed) -> Self {
+        BuildFault::Failed
+    }
+}
