@@ -64,6 +64,7 @@ impl ServerPass {
     /// The pass of a worker that has taken no turn yet, since this second.
     pub fn new(number: u32, second: u32) -> ServerPass
         ensures number { result.number ≡ number }
+        ensures second { result.second ≡ second }
         ensures received { result.numbers.received ≡ 0 }
         ensures answered { result.numbers.answered ≡ 0 }
     {
