@@ -2,3 +2,4 @@ pub mod Clocks
 pub mod Devices
 pub mod Hosts
 pub mod Links
+pub mod Looked

@@ -1,4 +1,5 @@
 pub mod Counts
+pub mod Looked
 pub mod Moments
 pub mod Puts
 pub mod States

@@ -1,6 +1,6 @@
 -- The states of a tended store, and what moves it from one to another (docs/DEVICES.md, "States").
 use Rattle.std.specs.Prelude.{◌≡◌, ◌≢◌, ◌⊎◌, ◌+◌, ◌%◌, ◌^◌, ◌≤◌, ℕ, zero, suc}
-use Rattle.stable.specs.Counts.{Rose, one_more}
+use Rattle.stable.specs.Counts.{Rose, RoseBy, one_more}
 use Rattle.stable.specs.declared.battery.Battery.{Battery}
 use Rattle.stable.specs.declared.battery.Battery.TheVariants.{Good, Low}
 use Rattle.stable.specs.declared.state.Cause.{Cause}
@@ -58,10 +58,11 @@ abbrev pub reads_battery : State → Command → Type 0
 reads_battery Down command.Up = Unit {0}
 reads_battery state c = ⊥
 
--- So many puts were made. A put leaves UP only where a device failed, and adds nothing dirty in another state.
+-- So many puts were made. A put leaves UP only where a device failed; it makes one sector dirty at most, and none in another state.
 pub record ArePuts (count : ℕ) (before now : ℕ) (old new : Snapshot) : Type 0 where
   pub puts : new.puts ≡ (old.puts + count) % 2 ^ 64
   pub state : StaysOrFails old.state new.state before now
+  pub few : new.dirty ≤ old.dirty + count
   pub dirty : old.state ≢ Up → new.dirty ≤ old.dirty
   pub battery : new.battery ≡ old.battery
   pub polls : new.polls ≡ old.polls
@@ -97,18 +98,30 @@ pub record IsFlushed (result : FlushAnswer) (before now : ℕ) (old new : Snapsh
 abbrev pub ReadsOrKeeps : Type 0 → Snapshot → Snapshot → Type 0
 ReadsOrKeeps reads old new = (reads → new.ups ≡ one_more old.ups) × ((reads → ⊥) → (new.ups ≡ old.ups) × (new.battery ≡ old.battery))
 
--- some sectors stay dirty only where a device failed
+-- what flushes: such a command tries each dirty sector once
+abbrev pub flushes : State → Command → Type 0
+flushes state command.Up = ⊥
+flushes state command.Down = Unit {0}
+flushes Up command.Flush = Unit {0}
+flushes Down command.Flush = ⊥
+flushes (Error was) command.Flush = Unit {0}
+flushes Up command.Reset = ⊥
+flushes Down command.Reset = ⊥
+flushes (Error was) command.Reset = Unit {0}
+
+-- no more sectors stay dirty than the count of faults rose by
 abbrev pub HasLeft : Answer → ℕ → ℕ → Type 0
-HasLeft (answer.Left n) before now = Rose before now
+HasLeft (answer.Left n) before now = RoseBy n before now
 HasLeft result before now = before ≤ now
 
--- A command was carried out.
+-- A command was carried out. One that doesn't flush leaves as much dirty as there was; after one that flushes, Done says that nothing is (`answered`).
 pub record IsCommanded (asked : Command) (result : Answer) (before now : ℕ) (old new : Snapshot) : Type 0 where
   pub why : Cause
   pub not_battery : IsDeviceError (Error why)
   pub answered : (result, new.state) ≡ after_command old.state asked new.battery why new.dirty
   pub cause : HasLeft result before now
   pub dirty : new.dirty ≤ old.dirty
+  pub idle : (flushes old.state asked → ⊥) → new.dirty ≡ old.dirty
   pub readings : ReadsOrKeeps (reads_battery old.state asked) old new
   pub puts : new.puts ≡ old.puts
   pub polls : new.polls ≡ old.polls
