@@ -1,5 +1,5 @@
 -- Looks at a rig, one after the other.
-use Rattle.std.proofs.Common.{◌≡◌, ◌≤◌, ℕ, refl, ◌∙◌, arith}
+use Rattle.std.proofs.Common.{refl, ◌∙◌, arith}
 use Rattle.stable.specs.Moments.{IsClocked}
 use Rattle.stable.proofs.Clocked.{started, idles}
 use Rattle.rig.specs.Devices.{Unchanged}

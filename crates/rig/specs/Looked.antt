@@ -28,3 +28,14 @@ pub record StaysOffDisk {R : Type 0} (r : Ghosts R) (old new : R) : Type 0 where
   pub is_kept : r.is_kept new ≡ r.is_kept old
   pub disk_writes : r.disk_writes new ≡ r.disk_writes old
   pub readings : r.readings new ≡ r.readings old
+
+-- Nothing that a rig tells of itself has changed, nor has time gone on.
+pub record Untouched {R : Type 0} (r : Ghosts R) (old new : R) : Type 0 where
+  pub contents : r.contents new ≡ r.contents old
+  pub crash : LeavesOnly r.moment r.left_since old new (Unchanged (r.contents old))
+  pub moment : r.moment new ≡ r.moment old
+  pub faults : r.faults new ≡ r.faults old
+  pub sizes : r.sizes new ≡ r.sizes old
+  pub is_kept : r.is_kept new ≡ r.is_kept old
+  pub disk_writes : r.disk_writes new ≡ r.disk_writes old
+  pub readings : r.readings new ≡ r.readings old

@@ -7,7 +7,6 @@ use Rattle.stable.specs.declared.state.State.{State}
 use Rattle.stable.specs.declared.state.State.TheVariants.{Up, Down, Error}
 use Rattle.stable.specs.declared.command.Command.{Command}
 use Rattle.stable.specs.declared.command.Command.TheVariants as command
-use Rattle.stable.specs.declared.command.Answer.{Answer}
 use Rattle.stable.specs.declared.command.Answer.TheVariants as answer
 use Rattle.stable.specs.declared.snapshot.Snapshot.{Snapshot}
 

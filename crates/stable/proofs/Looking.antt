@@ -1,5 +1,5 @@
 -- Looks at a store, one after the other.
-use Rattle.std.proofs.Common.{◌≡◌, ◌≤◌, ℕ, refl, ◌∙◌, arith}
+use Rattle.std.proofs.Common.{◌≡◌, refl, ◌∙◌, arith}
 use Rattle.stable.specs.Looked.{Looked}
 use Rattle.stable.specs.Moments.{IsClocked}
 use Rattle.stable.specs.declared.store.Stable.{Ghosts}

@@ -1,6 +1,4 @@
-ghost use Rattle.std.specs.Prelude.{◌≡◌};
-ghost use Rattle.stable.specs.Moments.{LeavesOnly};
-ghost use Rattle.stable.specs.Store.{Same, StaysOpenable};
+ghost use Rattle.stable.specs.Looked.{Untouched};
 
 use crate::{Battery, Tended};
 
@@ -8,21 +6,9 @@ use crate::{Battery, Tended};
 pub trait SteeredStore: Tended {
     /// Sets what the battery says at its next readings.
     fn set_battery(&mut self, battery: Battery)
-        ensures image { Self.image self.new ≡ Self.image self.old }
-        ensures crash { LeavesOnly Self.moment Self.left_since self.old self.new (Same (Self.image self.old)) }
-        ensures opens { StaysOpenable Self.opens_since Self.moment self.old self.new }
-        ensures moment { Self.moment self.new ≡ Self.moment self.old }
-        ensures faults { Self.faults self.new ≡ Self.faults self.old }
-        ensures sectors { Self.sector_count self.new ≡ Self.sector_count self.old }
-        ensures snapshot { Self.snapshot_of self.new ≡ Self.snapshot_of self.old };
+        ensures { Untouched Self.Stable self.old self.new };
 
     /// Cuts the device call that comes after so many more: it leaves the newer state, or the older. Each call after it fails without effect.
     fn stop_after(&mut self, calls: u64, newer: bool)
-        ensures image { Self.image self.new ≡ Self.image self.old }
-        ensures crash { LeavesOnly Self.moment Self.left_since self.old self.new (Same (Self.image self.old)) }
-        ensures opens { StaysOpenable Self.opens_since Self.moment self.old self.new }
-        ensures moment { Self.moment self.new ≡ Self.moment self.old }
-        ensures faults { Self.faults self.new ≡ Self.faults self.old }
-        ensures sectors { Self.sector_count self.new ≡ Self.sector_count self.old }
-        ensures snapshot { Self.snapshot_of self.new ≡ Self.snapshot_of self.old };
+        ensures { Untouched Self.Stable self.old self.new };
 }

@@ -1,7 +1,6 @@
-ghost use Rattle.std.specs.Prelude.{◌≡◌, ◌≤◌};
-ghost use Rattle.stable.specs.Moments.{LeavesOnly};
+ghost use Rattle.std.specs.Prelude.{◌≡◌};
+ghost use Rattle.stable.specs.Looked.{KeepsImage};
 ghost use Rattle.stable.specs.States.{IsPolled, IsFlushed, IsCommanded};
-ghost use Rattle.stable.specs.Store.{Same, StaysOpenable};
 
 use crate::{Answer, Battery, Command, FlushAnswer, Snapshot, Stable};
 
@@ -9,29 +8,17 @@ use crate::{Answer, Battery, Command, FlushAnswer, Snapshot, Stable};
 pub trait Tended: Stable {
     /// Reads the battery. Low leaves UP; Good ends an error by the battery once nothing is dirty.
     fn poll(&mut self) -> Battery
-        ensures image { Self.tells → Self.image self.new ≡ Self.image self.old }
-        ensures crash { LeavesOnly Self.moment Self.left_since self.old self.new (Same (Self.image self.old)) }
-        ensures opens { StaysOpenable Self.opens_since Self.moment self.old self.new }
-        ensures faults { Self.faults self.old ≤ Self.faults self.new }
-        ensures sectors { Self.sector_count self.new ≡ Self.sector_count self.old }
+        ensures keeps { KeepsImage Self.Stable self.old self.new }
         ensures snapshot { IsPolled result (Self.snapshot_of self.old) (Self.snapshot_of self.new) };
 
     /// Tries to flush the oldest dirty sector.
     fn flush_one(&mut self) -> FlushAnswer
-        ensures image { Self.tells → Self.image self.new ≡ Self.image self.old }
-        ensures crash { LeavesOnly Self.moment Self.left_since self.old self.new (Same (Self.image self.old)) }
-        ensures opens { StaysOpenable Self.opens_since Self.moment self.old self.new }
-        ensures faults { Self.faults self.old ≤ Self.faults self.new }
-        ensures sectors { Self.sector_count self.new ≡ Self.sector_count self.old }
+        ensures keeps { KeepsImage Self.Stable self.old self.new }
         ensures snapshot { IsFlushed result (Self.faults self.old) (Self.faults self.new) (Self.snapshot_of self.old) (Self.snapshot_of self.new) };
 
     /// Carries out a command.
     fn command(&mut self, command: Command) -> Answer
-        ensures image { Self.tells → Self.image self.new ≡ Self.image self.old }
-        ensures crash { LeavesOnly Self.moment Self.left_since self.old self.new (Same (Self.image self.old)) }
-        ensures opens { StaysOpenable Self.opens_since Self.moment self.old self.new }
-        ensures faults { Self.faults self.old ≤ Self.faults self.new }
-        ensures sectors { Self.sector_count self.new ≡ Self.sector_count self.old }
+        ensures keeps { KeepsImage Self.Stable self.old self.new }
         ensures snapshot { IsCommanded command result (Self.faults self.old) (Self.faults self.new) (Self.snapshot_of self.old) (Self.snapshot_of self.new) };
 
     /// The state and the counts.
