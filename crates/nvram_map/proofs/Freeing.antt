@@ -2,6 +2,9 @@
 use Rattle.std.proofs.Common.{◌≡◌, inl, inr, ℕ, zero, suc, ◌+◌, ◌-◌, ◌<◌, Bool, true, false, if◌then◌else◌, List, [], ◌∷◌, ◌++◌, length, get_or, set, take, drop, replicate, refl, sym, ◌∙◌, ap, subst, arith}
 use Rattle.std.proofs.lemmas.List.{append_assoc, append-nil, drop_more, drop_all, length-append, length-replicate, length-take-le, set_at}
 use Rattle.rig.specs.Devices.{Devices, Sizes, HasShape, with_word, WordOldOrNew}
+use Rattle.rig.specs.declared.rig.Rig.{Ghosts}
+use Rattle.stable.specs.Moments.{IsClocked, LeavesOnly}
+use Rattle.stable.proofs.Clocked.{goes_on, weaker, ends}
 use Rattle.nvram_map.specs.Overlay.{is_entry, laid, overlay}
 use Rattle.nvram_map.specs.Words.{mark, IsBoardOf}
 use Rattle.nvram_map.specs.Formats.{with_words, freed, empty_words, emptied, named, formatted, PartlyFreed, PartlyFormatted}
@@ -85,7 +88,7 @@ module _ (name : ℕ) (old : Devices) where
     marked_cut is (inl same) = inr (inl (same ∙ is))
     marked_cut is (inr stored) = inr (inr (marked_step is stored))
 
-module _ (sizes : Sizes) (old mid : Devices) (n : ℕ) (shape : HasShape sizes old) (within : n + 2 < sizes.words) (is : mid ≡ with_words old (freed n old.words)) where
+module _ {sizes : Sizes} {old mid : Devices} (n : ℕ) (shape : HasShape sizes old) (within : n + 2 < sizes.words) (is : mid ≡ with_words old (freed n old.words)) where
   pub freed_step : (d : Devices) → d ≡ with_word mid (n + 2) 0 → d ≡ with_words old (freed (n + 1) old.words)
   freed_step d stored = stored ∙ ap (λ (m : Devices). with_word m (n + 2) 0) is ∙ ap (with_words old) (freed_more old.words n (omega (arith, shape.words)))
 
@@ -96,5 +99,19 @@ module _ (sizes : Sizes) (old mid : Devices) (n : ℕ) (shape : HasShape sizes o
 pub freed_start : (old : Devices) → with_words old (freed 0 old.words) ≡ old
 freed_start old = ap (with_words old) (freed_none old.words)
 
-pub freed_last : (sizes : Sizes) (old d : Devices) (n : ℕ) → HasShape sizes old → sizes.words ≡ n + 2 → d ≡ with_words old (freed n old.words) → d ≡ emptied old
-freed_last sizes old d n shape all is = is ∙ ap (with_words old) (freed_all old.words n (shape.words ∙ all))
+pub freed_last : {sizes : Sizes} {old d : Devices} (n : ℕ) → HasShape sizes old → sizes.words ≡ n + 2 → d ≡ with_words old (freed n old.words) → d ≡ emptied old
+freed_last {old = old} n shape all is = is ∙ ap (with_words old) (freed_all old.words n (shape.words ∙ all))
+
+-- each moment of the stores of `format`: the entries are freed, the name is stored, and then the mark
+module _ {R : Type 0} (r : Ghosts R) (clocked : IsClocked r.tells r.contents r.moment r.left_since) (name : ℕ) {old mid : R} (first : LeavesOnly r.moment r.left_since old mid (PartlyFreed (r.contents old)))
+    (all : r.tells → r.contents mid ≡ emptied (r.contents old)) {word : ℕ} (is : word ≡ name) where
+  pub named_run : {new : R} → LeavesOnly r.moment r.left_since mid new (WordOldOrNew 1 word (r.contents mid)) → LeavesOnly r.moment r.left_since old new (PartlyFormatted name (r.contents old))
+  named_run {new} second = goes_on (weaker first (λ d left partly. inl partly)) second (λ d left cut.
+      let tells = clocked.told new _ d left in
+      named_cut name (r.contents old) (r.contents mid) d word is (all tells) (ends clocked first tells) cut)
+
+  pub marked_run : {near new : R} → LeavesOnly r.moment r.left_since mid near (WordOldOrNew 1 word (r.contents mid)) → (r.tells → r.contents near ≡ with_word (r.contents mid) 1 word)
+      → LeavesOnly r.moment r.left_since near new (WordOldOrNew 0 mark (r.contents near)) → LeavesOnly r.moment r.left_since old new (PartlyFormatted name (r.contents old))
+  marked_run {near} {new} second stored third = goes_on (named_run second) third (λ d left cut.
+      let tells = clocked.told new _ d left in
+      marked_cut name (r.contents old) (r.contents near) d (named_step name (r.contents old) (r.contents mid) (r.contents near) word is (all tells) (stored tells)) cut)

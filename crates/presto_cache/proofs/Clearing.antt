@@ -53,7 +53,7 @@ module _ {sizes : Sizes} {slots : List Slot} {old : Devices} (known : IsKnown si
   apart j ne dj = known.are.sectors j i ne dj dirty
 
   at_entry : IsFor i s old
-  at_entry = is_for sizes.buffers known.few slots known.are old known.of i s apart (λ _. refl)
+  at_entry = is_for known.are known.of i s apart (λ _. refl)
 
   failed_old : (slot : Slot) (w : ℕ) → may_hold slot w ≡ true → may_hold (clear_failed slot) w ≡ true
   failed_old Free w h = h
@@ -103,7 +103,7 @@ module _ {sizes : Sizes} {slots : List Slot} {old : Devices} (known : IsKnown si
     puts = record {
       image = soundly d (overlay old) s (get_or old.disk s []) (clear_image d cut);
       head = word_head old d i 0 cut;
-      entries_are = are_entries sizes.buffers known.few (set slots i (clear_failed (at slots i))) (failed_are known.are i lt dirty) d (failed_of d cut) sizes refl (failed_low known.are i lt dirty sizes.sectors known.low);
+      entries_are = are_entries (failed_are known.are i lt dirty) (failed_of d cut) sizes refl (failed_low known.are i lt dirty sizes.sectors known.low);
       disk = λ k. inl (ap (λ (l : List (List ℕ)). get_or l k []) (clear_disk d cut));
     };
     disk = clear_disk d cut;

@@ -51,10 +51,10 @@ module _ {sizes : Sizes} {slots : List Slot} (are : AreSlots sizes.buffers slots
 
 module _ {sizes : Sizes} {slots : List Slot} {old : Devices} (known : IsKnown sizes slots old) {i s b : ℕ} (fill : IsFill sizes slots i s b) (x : List ℕ) where
   free : IsFree b old
-  free = is_free sizes.buffers known.few slots known.are old known.of b fill.unused
+  free = is_free known.are known.of b fill.unused
 
   for : IsFor i s old
-  for = is_for sizes.buffers known.few slots known.are old known.of i s fill.place.others fill.place.this
+  for = is_for known.are known.of i s fill.place.others fill.place.this
 
   -- ---- the buffer is stored
 
@@ -69,7 +69,7 @@ module _ {sizes : Sizes} {slots : List Slot} {old : Devices} (known : IsKnown si
     puts = record {
       image = first_step old d b s x free any;
       head = ap (λ (e : Devices). take 2 e.words) any.1;
-      entries_are = are_entries sizes.buffers known.few slots known.are d (filled_of d any) sizes refl known.low;
+      entries_are = are_entries known.are (filled_of d any) sizes refl known.low;
       disk = λ k. inl (ap (λ (l : List (List ℕ)). get_or l k []) (fill_disk d any));
     };
     disk = fill_disk d any;
@@ -115,7 +115,7 @@ module _ {sizes : Sizes} {slots : List Slot} {old : Devices} (known : IsKnown si
       puts = record {
         image = second_step sizes old mid i b s w x free for known.kept known.shape i_fits fill.on_board fill.small b_small is_w filled d cut;
         head = word_head mid d i w cut ∙ ap (λ (e : Devices). take 2 e.words) filled;
-        entries_are = are_entries sizes.buffers known.few (set slots i (doubt_for slots i s b)) (doubt_are known.are known.low fill) d (doubt_of d cut) sizes refl (doubt_low known.are known.low fill);
+        entries_are = are_entries (doubt_are known.are known.low fill) (doubt_of d cut) sizes refl (doubt_low known.are known.low fill);
         disk = λ k. inl (ap (λ (l : List (List ℕ)). get_or l k []) (word_disk d cut));
       };
       disk = word_disk d cut;

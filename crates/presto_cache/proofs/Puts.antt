@@ -128,7 +128,7 @@ module _ {sizes : Sizes} {slots : List Slot} {old : Devices} (known : IsKnown si
     puts = record {
       image = soundly old (overlay old) s x (inl refl);
       head = refl;
-      entries_are = are_entries sizes.buffers known.few slots known.are old known.of sizes refl known.low;
+      entries_are = are_entries known.are known.of sizes refl known.low;
       disk = λ k. inl refl;
     };
     disk = refl;

@@ -13,10 +13,6 @@ use Rattle.presto_cache.specs.declared.slot.Slot.TheVariants.{Set, Doubt}
 use Rattle.presto_cache.specs.declared.cache.Cache.{Cache}
 use Rattle.presto_cache.proofs.Slots.{fits_few, older_below, newer_below, one_below, doubt_words}
 
--- an entry that was looked up in a slice of the entries
-pub seen_at : {slots slice : List Slot} (i : ℕ) {slot is : Slot} → slice ≡ slots → slot ≡ at slice i → slot ≡ is → at slots i ≡ is
-seen_at i same looked_up is = ap (λ l. at l i) (sym same) ∙ sym looked_up ∙ is
-
 -- both buffers of an entry in doubt can be named by a word
 module _ (cache : Cache) (i : ℕ) {s : ℕ} {o n : Option ℕ} {c : Bool} (is : at (slots_of cache) i ≡ Doubt s o n c) where
   pub older_fits : fits_word o

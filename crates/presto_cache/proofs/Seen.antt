@@ -18,7 +18,7 @@ module _ {sizes : Sizes} {slots : List Slot} {old : Devices} (known : IsKnown si
 
   pub read_bare : (s : ℕ) → s < sizes.sectors → find_in slots s ≡ None → get_or (overlay old) s [] ≡ get_or old.disk s []
   read_bare s lt none = here s (get_or old.disk s []) lt
-      (overlay_off old s known.kept (λ j is e. no_entry slots s none j (entry_names sizes.buffers known.few slots known.are old known.of j is).dirty (sym (entry_names sizes.buffers known.few slots known.are old known.of j is).sector ∙ e)))
+      (overlay_off old s known.kept (λ j is e. no_entry slots s none j (entry_names known.are known.of j is).dirty (sym (entry_names known.are known.of j is).sector ∙ e)))
 
   module _ (i s : ℕ) (lt : i < length slots) (dirty : is_dirty (at slots i) ≡ true) (of_s : sector_of (at slots i) ≡ s) where
     in_words : i + 2 < length old.words
@@ -31,7 +31,7 @@ module _ {sizes : Sizes} {slots : List Slot} {old : Devices} (known : IsKnown si
     small = omega (arith, of_s, known.are.sectors_fit i dirty)
 
     for : IsFor i s old
-    for = is_for sizes.buffers known.few slots known.are old known.of i s (λ j ne dj e. known.are.sectors j i ne dj dirty (e ∙ sym of_s)) (λ _. of_s)
+    for = is_for known.are known.of i s (λ j ne dj e. known.are.sectors j i ne dj dirty (e ∙ sym of_s)) (λ _. of_s)
 
     pub read_set : (b : ℕ) → b < sizes.buffers → get_or (entries old) i 0 ≡ spelled s (Some b) → get_or (overlay old) s [] ≡ get_or old.buffers b []
     read_set b b_fits is = here s (get_or old.buffers b []) fits

@@ -47,6 +47,9 @@ says (Doubt s o n c) w h = ⊎_elim
     (λ none. inl (eqb-true w 0 (and_right c (nat_eq w 0) none)))
     (or_cases (nat_eq w (spelled s o) || nat_eq w (spelled s n)) (c && nat_eq w 0) h)
 
+nonzero : (w : ℕ) → is_entry w ≡ true → w ≢ 0
+nonzero w is e = true≢false (sym is ∙ ap is_entry e)
+
 -- what a set word says of its entry
 pub record Names (slots : List Slot) (i w : ℕ) : Type 0 where
   pub lt : i < length slots
@@ -56,7 +59,7 @@ pub record Names (slots : List Slot) (i w : ℕ) : Type 0 where
   pub is : w ≡ word_of (sector_of (at slots i)) (entry_buffer w)
   pub entry : is_entry w ≡ true
 
-module _ (buffers : ℕ) (few : buffers ≤ 2048) (slots : List Slot) (are : AreSlots buffers slots) (d : Devices) (of : IsOf slots d) where
+module _ {buffers : ℕ} {slots : List Slot} {d : Devices} (are : AreSlots buffers slots) (of : IsOf slots d) where
   pub below : (i : ℕ) → get_or (entries d) i 0 ≢ 0 → i < length slots
   below i ne = case (ltb i (length slots)) refl
     where
@@ -71,7 +74,7 @@ module _ (buffers : ℕ) (few : buffers ≤ 2048) (slots : List Slot) (are : Are
       (λ z. absurd (ne z))
       (λ x. let s = sector_of (at slots i) in
       let fits : s < 2 ^ 32 = are.sectors_fit i x.2 in
-      let small : x.0 < 2 ^ 16 = omega (arith, are.buffers_fit i x.0 x.1, few) in
+      let small : x.0 < 2 ^ 16 = omega (arith, are.buffers_fit i x.0 x.1, are.few) in
       let buffer : entry_buffer (get_or (entries d) i 0) ≡ x.0 = ap entry_buffer x.3 ∙ made_buffer x.0 s fits small in
       record {
         lt = below i ne;
@@ -82,9 +85,6 @@ module _ (buffers : ℕ) (few : buffers ≤ 2048) (slots : List Slot) (are : Are
         entry = ap is_entry x.3 ∙ made_entry x.0 s;
       })
       (says (at slots i) (get_or (entries d) i 0) (of.each i (below i ne)))
-
-  nonzero : (w : ℕ) → is_entry w ≡ true → w ≢ 0
-  nonzero w is e = true≢false (sym is ∙ ap is_entry e)
 
   pub entry_names : (i : ℕ) → is_entry (get_or (entries d) i 0) ≡ true → Names slots i (get_or (entries d) i 0)
   entry_names i is = names i (nonzero (get_or (entries d) i 0) is)
@@ -187,6 +187,13 @@ module _ (slots : List Slot) (i : ℕ) (new : Slot) (lt : i < length slots) (d :
         ∙ ap (may_hold (at slots j)) (get_or-set_other (entries d) i j w 0 a.0) ∙ of.each j (omega (arith, below, length-set slots i new)))
         (at_set slots i j new lt);
   }
+
+-- an entry that was looked up in a slice of the entries
+pub seen_at : {slots slice : List Slot} (i : ℕ) {slot is : Slot} → slice ≡ slots → slot ≡ at slice i → slot ≡ is → at slots i ≡ is
+seen_at i same looked_up is = ap (λ l. at l i) (sym same) ∙ sym looked_up ∙ is
+
+pub taken_at : {slots slice : List Slot} (i : ℕ) {slot : Slot} {taken : Bool} → slice ≡ slots → slot ≡ at slice i → taken ≡ is_dirty slot → taken ≡ is_dirty (at slots i)
+taken_at i same looked_up is = is ∙ ap is_dirty (looked_up ∙ ap (λ l. at l i) same)
 
 -- an entry that is sure keeps its word in doubt
 pub doubted : (slot : Slot) (s w : ℕ) (n : Option ℕ) (c : Bool) → in_doubt slot ≡ false → (is_dirty slot ≡ true → sector_of slot ≡ s) → may_hold slot w ≡ true → may_hold (Doubt s (settled slot) n c) w ≡ true

@@ -20,7 +20,7 @@ module _ {sizes : Sizes} {slots : List Slot} {old : Devices} (known : IsKnown si
   -- what stands in the overlay once it is written
   pub written_image : find_in slots s ≡ None → (d : Devices) → d ≡ with_sector old s x → overlay d ≡ set (overlay old) s x
   written_image none d new =
-      ap overlay new ∙ sector_bare old s x (λ j is e. no_entry slots s none j (entry_names sizes.buffers known.few slots known.are old known.of j is).dirty (sym (entry_names sizes.buffers known.few slots known.are old known.of j is).sector ∙ e))
+      ap overlay new ∙ sector_bare old s x (λ j is e. no_entry slots s none j (entry_names known.are known.of j is).dirty (sym (entry_names known.are known.of j is).sector ∙ e))
 
   written : (d : Devices) → d ≡ with_sector old s x → (overlay d ≡ overlay old) ⊎ (overlay d ≡ set (overlay old) s x)
   written d new = case (find_in slots s) refl
@@ -30,7 +30,7 @@ module _ {sizes : Sizes} {slots : List Slot} {old : Devices} (known : IsKnown si
       case (Some i) some =
           let there = entry_found slots s i some in
           let in_words : i + 2 < length old.words = omega (arith, there.0, known.of.size) in
-          let for = is_for sizes.buffers known.few slots known.are old known.of i s (λ j ne dj e. known.are.sectors j i ne dj there.1 (e ∙ sym there.2)) (λ _. there.2) in
+          let for = is_for known.are known.of i s (λ j ne dj e. known.are.sectors j i ne dj there.1 (e ∙ sym there.2)) (λ _. there.2) in
           ⊎_elim (λ a. inl (ap overlay new ∙ a)) (λ a. inr (ap overlay new ∙ a)) (sector_covered old i s x known.kept in_words for)
 
   written_others : (d : Devices) → SectorOldOrNew s x old d → DiskBut s old d
@@ -44,7 +44,7 @@ module _ {sizes : Sizes} {slots : List Slot} {old : Devices} (known : IsKnown si
     puts = record {
       image = soundly d (overlay old) s x (written d new);
       head = ap (λ (e : Devices). take 2 e.words) new;
-      entries_are = are_entries sizes.buffers known.few slots known.are d (written_of d (inr new)) sizes refl known.low;
+      entries_are = are_entries known.are (written_of d (inr new)) sizes refl known.low;
       disk = λ k. ⊎_elim (λ a. inl (ap (λ (e : Devices). get_or e.disk k []) new ∙ a)) (λ a. inr (inr (a.0, ap (λ (e : Devices). get_or e.disk k []) new ∙ a.1))) (get_or_set old.disk s x k);
     };
     others = written_others d (inr new);

@@ -1,10 +1,11 @@
 // Clearing one entry.
-ghost use Rattle.std.specs.Prelude.{◌≡◌, ◌<◌, true, length};
+ghost use Rattle.std.specs.Prelude.{◌≡◌, ◌<◌, true, [], length, get_or};
 ghost use Rattle.stable.specs.Counts.{HasCause};
 ghost use Rattle.stable.specs.Moments.{LeavesOnly};
 ghost use Rattle.rig.specs.Looked.{StaysOffDisk};
+ghost use Rattle.nvram_map.specs.Overlay.{overlay};
 ghost use Rattle.presto_cache.specs.Slots.{at, is_dirty, sector_of, clear_failed};
-ghost use Rattle.presto_cache.specs.Board.{KnowsSlots, PutsOnBoard};
+ghost use Rattle.presto_cache.specs.Board.{KnowsSlots, PutsOnBoard, KeepsOnBoard};
 ghost use Rattle.presto_cache.specs.Stores.{IsCleared, on_disk_at};
 
 use crate::slot::Slot;
@@ -17,6 +18,8 @@ pub fn clear<R: Rig>(slots: &[Slot], rig: &mut R, index: u32) -> Result<(), Fail
     requires dirty { is_dirty (at slots.now index) ≡ true }
     ensures told { R.tells → IsCleared slots.now index (R.contents rig.old) (R.contents rig.new) result }
     ensures crash { LeavesOnly R.moment R.left_since rig.old rig.new (PutsOnBoard (R.sizes rig.old) (sector_of (at slots.now index)) (on_disk_at slots.now index (R.contents rig.old)) (R.contents rig.old)) }
+    ensures keeps { R.tells → on_disk_at slots.now index (R.contents rig.old) ≡ get_or (overlay (R.contents rig.old)) (sector_of (at slots.now index)) []
+        → LeavesOnly R.moment R.left_since rig.old rig.new (KeepsOnBoard (R.sizes rig.old) (R.contents rig.old)) }
     ensures cause { HasCause (R.faults rig.old) (R.faults rig.new) result }
     ensures stays { StaysOffDisk R.Rig rig.old rig.new }
 {

@@ -7,27 +7,30 @@ use Rattle.nvram_map.proofs.formatting.free_entries.Goals as goal
 
 pub returns-in_err-store_word-clause-crash : goal.returns-in_err-store_word-clause-crash
 returns-in_err-store_word-clause-crash g c =
-    let R = g.R.Rig in
-    let words : (R.sizes c.args.rig.now).words ≡ (R.sizes c.args.rig.now).buffers + 1 = (g.met.R.Rig.board c.args.rig.now).some_words c.requires in
+    let law = g.met.R.Rig in
+    let old = c.args.rig.now in
+    let words : (g.R.Rig.sizes old).words ≡ (g.R.Rig.sizes old).buffers + 1 = (law.board old).some_words c.requires in
     goes_on c.loop-index.invariant.crash c.store_word.ensures.crash (λ d left cut.
-    let tells = g.met.R.Rig.clocked.told _ _ d left in
-    freed_cut (R.sizes c.args.rig.now) (R.contents c.args.rig.now) (R.contents c.loop-index.rig) c.loop-index.index (shape_now g.met.R.Rig.clocked g.met.R.Rig.shape c.args.rig.now tells) (omega arith) (c.loop-index.invariant.done tells) d cut)
+    let tells = law.clocked.told _ _ d left in
+    freed_cut c.loop-index.index (shape_now law.clocked law.shape old tells) (omega arith) (c.loop-index.invariant.done tells) d cut)
 
 pub loop-index-preserved : goal.loop-index-preserved
 loop-index-preserved g c =
-    let R = g.R.Rig in
-    let words : (R.sizes c.args.rig.now).words ≡ (R.sizes c.args.rig.now).buffers + 1 = (g.met.R.Rig.board c.args.rig.now).some_words c.requires in
+    let law = g.met.R.Rig in
+    let old = c.args.rig.now in
+    let words : (g.R.Rig.sizes old).words ≡ (g.R.Rig.sizes old).buffers + 1 = (law.board old).some_words c.requires in
     record {
-      done = λ tells. freed_step (R.sizes c.args.rig.now) (R.contents c.args.rig.now) (R.contents c.loop-index.rig) c.loop-index.index (shape_now g.met.R.Rig.clocked g.met.R.Rig.shape c.args.rig.now tells) (omega arith) (c.loop-index.invariant.done tells) _ (c.in_ok-store_word.ensures.done tells);
+      done = λ tells. freed_step c.loop-index.index (shape_now law.clocked law.shape old tells) (omega arith) (c.loop-index.invariant.done tells) _ (c.in_ok-store_word.ensures.done tells);
       crash = goes_on c.loop-index.invariant.crash c.store_word.ensures.crash (λ d left cut.
-          let tells = g.met.R.Rig.clocked.told _ _ d left in
-          freed_cut (R.sizes c.args.rig.now) (R.contents c.args.rig.now) (R.contents c.loop-index.rig) c.loop-index.index (shape_now g.met.R.Rig.clocked g.met.R.Rig.shape c.args.rig.now tells) (omega arith) (c.loop-index.invariant.done tells) d cut);
-      stays = off_disk_again R c.loop-index.invariant.stays (search rules);
+          let tells = law.clocked.told _ _ d left in
+          freed_cut c.loop-index.index (shape_now law.clocked law.shape old tells) (omega arith) (c.loop-index.invariant.done tells) d cut);
+      stays = off_disk_again g.R.Rig c.loop-index.invariant.stays (search rules);
     }
 
 pub returns-clause-done : goal.returns-clause-done
 returns-clause-done g c tells =
-    let R = g.R.Rig in
-    let words : (R.sizes c.args.rig.now).words ≡ (R.sizes c.args.rig.now).buffers + 1 = (g.met.R.Rig.board c.args.rig.now).some_words c.requires in
-    let two : 2 ≤ (R.sizes c.args.rig.now).buffers = (g.met.R.Rig.board c.args.rig.now).some_buffers c.requires in
-    freed_last (R.sizes c.args.rig.now) (R.contents c.args.rig.now) (R.contents c.loop-index.rig) c.loop-index.index (shape_now g.met.R.Rig.clocked g.met.R.Rig.shape c.args.rig.now tells) (omega arith) (c.loop-index.invariant.done tells)
+    let law = g.met.R.Rig in
+    let old = c.args.rig.now in
+    let words : (g.R.Rig.sizes old).words ≡ (g.R.Rig.sizes old).buffers + 1 = (law.board old).some_words c.requires in
+    let two : 2 ≤ (g.R.Rig.sizes old).buffers = (law.board old).some_buffers c.requires in
+    freed_last c.loop-index.index (shape_now law.clocked law.shape old tells) (omega arith) (c.loop-index.invariant.done tells)

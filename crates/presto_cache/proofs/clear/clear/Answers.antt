@@ -1,5 +1,6 @@
 use Rattle.stable.proofs.Clocked.{weaker, ends}
 use Rattle.presto_cache.proofs.Known.{slots_known}
+use Rattle.presto_cache.proofs.Puts.{puts_kept_on_board}
 use Rattle.presto_cache.proofs.Clearing.{clear_step, clear_told}
 use Rattle.presto_cache.proofs.clear.clear.Goals as goal
 
@@ -15,3 +16,6 @@ returns-clause-crash g c =
     weaker c.store_word.ensures.crash (λ d left cut.
     let known = slots_known g.R.Rig law.clocked law.shape law.kept_told law.board c.requires.knows (law.clocked.told _ _ d left) in
     clear_step known c.args.index c.requires.index c.requires.dirty d cut)
+
+pub returns-clause-keeps : goal.returns-clause-keeps
+returns-clause-keeps g c tells same = weaker (returns-clause-crash g c) (λ d left puts. puts_kept_on_board same puts)

@@ -1,4 +1,5 @@
-use Rattle.presto_cache.proofs.Reading.{seen_at, older_fits, newer_fits, set_read, doubt_read}
+use Rattle.presto_cache.proofs.Slots.{seen_at}
+use Rattle.presto_cache.proofs.Reading.{older_fits, newer_fits, set_read, doubt_read}
 use Rattle.presto_cache.proofs.cache.Cache.buffer_at.Goals as goal
 
 pub read_as-requires-clause-older : goal.read_as-requires-clause-older
