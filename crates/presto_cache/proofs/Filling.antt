@@ -6,7 +6,7 @@ use Rattle.rig.specs.Devices.{Devices, Sizes, with_word, with_buffer, BufferAny,
 use Rattle.rig.specs.declared.rig.Rig.{Ghosts}
 use Rattle.stable.specs.Moments.{IsClocked, LeavesOnly}
 use Rattle.stable.proofs.Clocked.{goes_on, weaker}
-use Rattle.nvram_map.specs.Overlay.{entries, overlay, IsFree, IsFor}
+use Rattle.nvram_map.specs.Overlay.{entries, IsFree, IsFor}
 use Rattle.nvram_map.proofs.Overlaid.{first_step, second_step, second_done}
 use Rattle.nvram_map.specs.Words.{word_of}
 use Rattle.presto_cache.specs.Slots.{is_some_of, uses, spelled, settled, at, AreSlots, AllBelowSectors}

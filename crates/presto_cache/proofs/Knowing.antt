@@ -11,6 +11,10 @@ use Rattle.presto_cache.specs.declared.cache.Cache.{Cache}
 use Rattle.presto_cache.proofs.Listing.{entries_changed}
 use Rattle.presto_cache.proofs.Slots.{same_slot}
 
+-- by what was found and is known of the entry
+pub followed_at : (i : ℕ) (xs : List ℕ) {was is a b : Bool} {new : List ℕ} → new ≡ followed a b i xs → a ≡ was → b ≡ is → new ≡ followed was is i xs
+followed_at i xs {was} {b = b} new_is a_is b_is = new_is ∙ ap (λ t. followed t b i xs) a_is ∙ ap (λ t. followed was t i xs) b_is
+
 followed_stays : (b : Bool) (i : ℕ) (xs : List ℕ) → followed b b i xs ≡ xs
 followed_stays true i xs = refl
 followed_stays false i xs = refl

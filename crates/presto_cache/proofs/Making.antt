@@ -80,7 +80,11 @@ used_dirty (Doubt s o n c) b u = refl
 set_uses : (s c b : ℕ) → uses (Set s c) b ≡ true → c ≡ b
 set_uses s c b u = eqb-true c b u
 
-module _ (buffers : ℕ) (board : List BoardEntry) (fits : FitBuffers buffers board) (slots : List Slot) (made : IsMadeOf board slots) where
+-- of an equal board
+pub same_board : {es board : List BoardEntry} (slots : List Slot) → es ≡ board → IsMadeOf es slots → IsMadeOf board slots
+same_board slots same made = subst (λ l. IsMadeOf l slots) same made
+
+module _ {buffers : ℕ} {board : List BoardEntry} (fits : FitBuffers buffers board) (slots : List Slot) (made : IsMadeOf board slots) where
   found : (i : ℕ) → is_dirty (at slots i) ≡ true → Maker board i (at slots i)
   found i dirty = subst (λ (x : Slot). Maker board i x) (sym (made i)) (maker board i (sym (ap is_dirty (made i)) ∙ dirty))
 
@@ -151,7 +155,7 @@ from_words (w ∷ ws) k (suc i) = case (is_entry w) (ap (slot_from (entries_from
     case true rest = from_there (entry_at k w) (entries_from (suc k) ws) (k + suc i) (λ e. omega (arith, e)) ∙ rest
     case false rest = rest
 
-module _ (sizes : Sizes) (few : sizes.buffers ≤ 2048) (board : List BoardEntry) (d : Devices) (read : AreReadFrom sizes board d) where
+module _ {sizes : Sizes} (few : sizes.buffers ≤ 2048) {board : List BoardEntry} {d : Devices} (read : AreReadFrom sizes board d) where
   word_known : (w : ℕ) → (w ≢ 0 → IsEntryWord sizes w) → may_hold (known_word w) w ≡ true
   word_known w good = by_head w 0
       (λ zero_word. subst (λ (n : ℕ). may_hold (known_word n) n ≡ true) (sym zero_word) refl)

@@ -1,14 +1,11 @@
-use Rattle.std.proofs.Common.{rules, false, ◌≡◌, ◌∙◌, sym, ap, subst, ℕ, List, [], get_or, set}
+use Rattle.std.proofs.Common.{rules, false, ◌≡◌, ◌∙◌, sym, ap, subst, ℕ, List, set}
 use Rattle.std.proofs.lemmas.Bool.{true≢false}
-use Rattle.stable.specs.Moments.{LeavesOnly}
-use Rattle.stable.proofs.Clocked.{started, weaker}
-use Rattle.presto_cache.specs.Board.{PutsOnBoard, KeepsOnBoard}
-use Rattle.presto_cache.specs.Slots.{AreSlots, at, is_dirty, sector_of, clear_failed}
-use Rattle.presto_cache.specs.Stores.{on_disk_at}
+use Rattle.stable.proofs.Clocked.{started}
+use Rattle.presto_cache.specs.Slots.{AreSlots, at, is_dirty, clear_failed}
 use Rattle.presto_cache.specs.declared.slot.Slot.{Slot}
 use Rattle.presto_cache.specs.declared.slot.Slot.TheVariants.{Free}
 use Rattle.presto_cache.proofs.Known.{known_at, knows_slots}
-use Rattle.presto_cache.proofs.Puts.{stay_step, stay_keeps, puts_kept_on_board}
+use Rattle.presto_cache.proofs.Puts.{stay_step, stay_keeps}
 use Rattle.presto_cache.proofs.Slots.{taken_at}
 use Rattle.presto_cache.proofs.Clearing.{cleared_are, failed_are}
 use Rattle.presto_cache.proofs.Knowing.{free_stays}
