@@ -1,8 +1,7 @@
 use Rattle.std.proofs.Common.{rules, ◌⊎◌, ◌≡◌, inl, inr, ⊎_elim, sym, subst, List, arith}
 use Rattle.stable.proofs.Clocked.{started}
 use Rattle.presto_cache.specs.Cache.{Becomes}
-use Rattle.presto_cache.specs.Slots.{at}
-use Rattle.presto_cache.specs.Stores.{IsFill}
+use Rattle.presto_cache.specs.Slots.{IsPlace, IsUnused, at}
 use Rattle.presto_cache.specs.declared.slot.Slot.{Slot}
 use Rattle.presto_cache.proofs.Known.{known_at}
 use Rattle.presto_cache.proofs.Puts.{stay_step}
@@ -19,7 +18,14 @@ returns-in_default-clause-crash g c =
 pub fill-requires-clause-fill : goal.fill-requires-clause-fill
 fill-requires-clause-fill g c =
     let is = found g.R.Rig c.requires.knows c.requires.sure c.requires.sector (omega arith) c.deref.ensures.value c.deref-2.ensures.value c.in-Some.ensures c.lowest_unused-buffer.ensures.lowest c.lowest_unused-buffer.ensures.in_range in
-    subst (λ (l : List Slot). IsFill (g.R.Rig.sizes c.args.rig.now) l c.in-Some.index c.args.sector c.lowest_unused-buffer.result) (sym c.deref-3.ensures.value) is.fill
+    let on_board = is.fill.on_board in
+    record {
+      place = subst (λ (l : List Slot). IsPlace l c.in-Some.index c.args.sector) (sym c.deref-3.ensures.value) is.fill.place;
+      unused = subst (λ (l : List Slot). IsUnused l c.lowest_unused-buffer.result) (sym c.deref-3.ensures.value) is.fill.unused;
+      on_board = search rules;
+      on_disk = search rules;
+      small = omega arith;
+    }
 
 pub know-requires-clause-slots : goal.know-requires-clause-slots
 know-requires-clause-slots g c =
