@@ -3,7 +3,6 @@ use Rattle.std.proofs.Common.{◌≡◌, ◌≢◌, ◌⊎◌, inl, inr, ⊎_eli
 use Rattle.std.proofs.lemmas.List.{get_or_past, set-set}
 use Rattle.std.proofs.lemmas.Bool.{cases_eq, cases_lt, ne_eqb}
 use Rattle.std.proofs.lemmas.List.Sums.{sum_by-set, sum_by-cons, count_by-le-length}
-use Rattle.std.specs.List.{list_any, filter_map}
 use Rattle.std.specs.Option.{is_some, IfSome}
 use Rattle.index_sets.specs.Queue.{is_listed, without, first_of}
 use Rattle.index_sets.specs.Row.{numbers_in, Points, Agrees}
@@ -31,9 +30,9 @@ pub first_is : (items : List (Option ℕ)) (at end : ℕ) → at ≤ end → ((p
     → first_of (numbers_in items) ≡ get_or items at None
 first_is items at end le before here past = ⊎_elim
     (λ (none : get_or items at None ≡ None). ⊎_elim
-        (λ (lt : at < end). absurd (here lt none))
-        (λ (ge : end ≤ at). ap first_of (numbers_none items (λ p. ⊎_elim (λ (low : p < at). before p low) (λ (high : at ≤ p). past p (omega arith)) (cases_lt p at))) ∙ sym none)
-        (cases_lt at end))
+    (λ (lt : at < end). absurd (here lt none))
+    (λ (ge : end ≤ at). ap first_of (numbers_none items (λ p. ⊎_elim (λ (low : p < at). before p low) (λ (high : at ≤ p). past p (omega arith)) (cases_lt p at))) ∙ sym none)
+    (cases_lt at end))
     (λ (some : (k : ℕ) × (get_or items at None ≡ Some k)). first_number items at some.0 before some.1 ∙ sym some.1)
     (gap_or_number (get_or items at None))
 
@@ -166,22 +165,22 @@ points_clear : (from to : List (Option ℕ)) (at k : ℕ) → Points from to →
 points_clear from to at k points here = λ q j h. ⊎_elim
     (λ (e : q ≡ at). let g = ap (λ p. get_or (set from at None) p None) e in let n = cleared from at in cc)
     (λ (ne : q ≢ at).
-        let was : get_or to j None ≡ Some q = points q j (sym (get_or-set_other from at q None None ne) ∙ h) in
-        let other : j ≢ k = λ e. (let same = ap (λ i. get_or to i None) e in let s : q ≡ at = cc in ne s) in
-        get_or-set_other to k j None None other ∙ was)
+    let was : get_or to j None ≡ Some q = points q j (sym (get_or-set_other from at q None None ne) ∙ h) in
+    let other : j ≢ k = λ e. (let same = ap (λ i. get_or to i None) e in let s : q ≡ at = cc in ne s) in
+    get_or-set_other to k j None None other ∙ was)
     (cases_eq q at)
 
 points_put : (from to : List (Option ℕ)) (at k : ℕ) → Points from to → at < length from → k < length to → get_or to k None ≡ None → Points (set from at (Some k)) (set to k (Some at))
 points_put from to at k points low lt none = λ q j h. ⊎_elim
     (λ (e : q ≡ at).
-        let g = ap (λ p. get_or (set from at (Some k)) p None) e in
-        let n = get_or-set_same from at (Some k) None low in
-        let s : j ≡ k = cc in
-        ap (λ i. get_or (set to k (Some at)) i None) s ∙ get_or-set_same to k (Some at) None lt ∙ ap Some (sym e))
+    let g = ap (λ p. get_or (set from at (Some k)) p None) e in
+    let n = get_or-set_same from at (Some k) None low in
+    let s : j ≡ k = cc in
+    ap (λ i. get_or (set to k (Some at)) i None) s ∙ get_or-set_same to k (Some at) None lt ∙ ap Some (sym e))
     (λ (ne : q ≢ at).
-        let was : get_or to j None ≡ Some q = points q j (sym (get_or-set_other from at q (Some k) None ne) ∙ h) in
-        let other : j ≢ k = λ e. (let same = ap (λ i. get_or to i None) e in cc) in
-        get_or-set_other to k j (Some at) None other ∙ was)
+    let was : get_or to j None ≡ Some q = points q j (sym (get_or-set_other from at q (Some k) None ne) ∙ h) in
+    let other : j ≢ k = λ e. (let same = ap (λ i. get_or to i None) e in cc) in
+    get_or-set_other to k j (Some at) None other ∙ was)
     (cases_eq q at)
 
 pub inside : (xs : List (Option ℕ)) (at k : ℕ) → get_or xs at None ≡ Some k → at < length xs
@@ -217,14 +216,14 @@ pub agrees_move : (items places : List (Option ℕ)) (from to k : ℕ) → Agree
 agrees_move items places from to k agrees here low gap =
     let place : get_or places k None ≡ Some from = agrees.placed from k here in
     let free : get_or (set items from None) to None ≡ None = ⊎_elim
-        (λ (e : to ≡ from). ap (λ p. get_or (set items from None) p None) e ∙ cleared items from)
-        (λ (ne : to ≢ from). get_or-set_other items from to None None ne ∙ gap ne)
-        (cases_eq to from) in
+    (λ (e : to ≡ from). ap (λ p. get_or (set items from None) p None) e ∙ cleared items from)
+    (λ (ne : to ≢ from). get_or-set_other items from to None None ne ∙ gap ne)
+    (cases_eq to from) in
     subst (λ ps. Agrees (set (set items from None) to (Some k)) ps) (set-set places k None (Some to))
-        (agrees_put (set items from None) (set places k None) to k (agrees_clear items places from k agrees place)
-        (subst (λ n. to < n) (sym (length-set items from None)) low)
-        (subst (λ n. k < n) (sym (length-set places k None)) (inside places k from place))
-        free (cleared places k))
+    (agrees_put (set items from None) (set places k None) to k (agrees_clear items places from k agrees place)
+    (subst (λ n. to < n) (sym (length-set items from None)) low)
+    (subst (λ n. k < n) (sym (length-set places k None)) (inside places k from place))
+    free (cleared places k))
 
 pub gaps_alone : (n p : ℕ) → get_or {A = Option ℕ} (replicate n None) p None ≡ None
 gaps_alone zero p = refl

@@ -1,2 +1,3 @@
 mod Gaps
 mod SetBits
+mod BitCounts

@@ -123,6 +123,10 @@ set_past items i b le = by_length items i le
     by_length (x ∷ xs) (suc i) le = λ z. x ∷ by_length xs i (omega arith) z
 
 -- a bit by its word
+pub bit_at_place : (words : List ℕ) (i at b : ℕ) → i / 64 ≡ at → i % 64 ≡ b → bit words i ≡ (bit_at (get_or words at 0) b == 1)
+unfolding bit
+bit_at_place words i at b e f = λ z. bit_at (get_or words (e z) 0) (f z) == 1
+
 bit_set : (words : List ℕ) (i at b : ℕ) → i / 64 ≡ at → i % 64 ≡ b → bit_at (get_or words at 0) b ≡ 1 → bit words i ≡ true
 unfolding bit
 bit_set words i at b e f h = (λ z. bit_at (get_or words (e z) 0) (f z) == 1) ∙ eq-eqb _ 1 h
@@ -148,11 +152,11 @@ pub none_between : (words : List ℕ) (from lowest at rest : ℕ) → IsRest wor
     → ((k : ℕ) → max lowest (from / 64 + 1) ≤ k → k < at → get_or words k 0 ≡ 0) → (i : ℕ) → from ≤ i → i < 64 * at → bit words i ≡ false
 none_between words from lowest at rest is none low zeros i le lt = ⊎_elim
     (λ (first : i / 64 ≡ from / 64). bit_clear words i (from / 64) (i % 64) first refl
-        (sym (is.above (i % 64) (omega arith) (omega arith)) ∙ ap (λ w. bit_at w (i % 64)) none ∙ bit_at-zero (i % 64)))
+    (sym (is.above (i % 64) (omega arith) (omega arith)) ∙ ap (λ w. bit_at w (i % 64)) none ∙ bit_at-zero (i % 64)))
     (λ (later : i / 64 ≢ from / 64). ⊎_elim
-        (λ (below : i < 64 * lowest). low i below)
-        (λ (above : 64 * lowest ≤ i). bit_of_zero words i (zeros (i / 64) (omega arith) (omega arith)))
-        (cases_lt i (64 * lowest)))
+    (λ (below : i < 64 * lowest). low i below)
+    (λ (above : 64 * lowest ≤ i). bit_of_zero words i (zeros (i / 64) (omega arith) (omega arith)))
+    (cases_lt i (64 * lowest)))
     (cases_eq (i / 64) (from / 64))
 
 -- the lowest bit of a word is the lowest where none is set before it

@@ -1,4 +1,4 @@
-use Rattle.std.proofs.Common.{rules, arith, ◌≡◌, ◌≤◌, ◌<◌, ◌-◌, ◌*◌, ◌%◌, ◌^◌, ℕ, min, sym, ap, ◌∙◌, bit_and}
+use Rattle.std.proofs.Common.{arith, ◌≡◌, ◌≤◌, ◌-◌, ◌*◌, ◌%◌, ◌^◌, ℕ, min, ap, ◌∙◌, bit_and}
 use Rattle.std.proofs.lemmas.Nat.Bits.{bit_at_and, ones_shl, bit_at_mask_inside, bit_at_mask_below, bit_at-lt}
 use Rattle.std.specs.Int.{bit_at}
 use Rattle.index_sets.proofs.bits.without_bits_below.Goals as goal

@@ -1,7 +1,6 @@
-use Rattle.std.proofs.Common.{rules, arith, ◌≡◌, ◌≤◌, ◌<◌, ◌+◌, ◌*◌, ◌/◌, ◌%◌, ℕ, false, max, get_or, length, sym, ap, ◌∙◌, ◌⊎◌, ⊎_elim}
+use Rattle.std.proofs.Common.{rules, arith, ◌≡◌, ◌≤◌, ◌<◌, ◌*◌, ◌/◌, get_or, sym, ap, ◌∙◌, ⊎_elim}
 use Rattle.std.proofs.lemmas.Bool.{cases_lt}
 use Rattle.std.specs.Int.{bit_at}
-use Rattle.index_sets.specs.Bits.{bit}
 use Rattle.index_sets.proofs.SetBits.{IsRest, bit_past, none_between, lowest_here, lowest_in_rest}
 use Rattle.index_sets.proofs.words.lowest_from.Goals as goal
 
@@ -26,10 +25,10 @@ returns-then-at-words c = λ i le.
     } in
     let start = c.max.ensures in
     ⊎_elim
-        (λ (lt : i < 64 * c.first_word-at.result). none_between c.args.words.now c.args.from c.args.lowest c.first_word-at.result c.without_bits_below-rest.result rest c.if-rest-ne0.false c.requires.lowest
-            (λ k low high. c.first_word-at.ensures.zeros k (omega arith) high) i le lt)
-        (λ (ge : 64 * c.first_word-at.result ≤ i). bit_past c.args.words.now i (omega (arith, c.if-at-words.true)))
-        (cases_lt i (64 * c.first_word-at.result))
+    (λ (lt : i < 64 * c.first_word-at.result). none_between c.args.words.now c.args.from c.args.lowest c.first_word-at.result c.without_bits_below-rest.result rest c.if-rest-ne0.false c.requires.lowest
+    (λ k low high. c.first_word-at.ensures.zeros k (omega arith) high) i le lt)
+    (λ (ge : 64 * c.first_word-at.result ≤ i). bit_past c.args.words.now i (omega (arith, c.if-at-words.true)))
+    (cases_lt i (64 * c.first_word-at.result))
 
 pub returns : goal.returns
 returns c =
@@ -42,6 +41,6 @@ returns c =
     let start = c.max.ensures in
     lowest_here c.args.words.now c.args.from c.first_word-at.result c.lowest_bit-2.result c.lowest_bit-2.ensures.within (let from = c.first_word-at.ensures.from c.if-at-words.false in omega arith)
     (none_between c.args.words.now c.args.from c.args.lowest c.first_word-at.result c.without_bits_below-rest.result rest c.if-rest-ne0.false c.requires.lowest
-        (λ k low high. c.first_word-at.ensures.zeros k (omega arith) high))
+    (λ k low high. c.first_word-at.ensures.zeros k (omega arith) high))
     (sym (ap (λ w. bit_at w c.lowest_bit-2.result) found) ∙ c.lowest_bit-2.ensures.here)
     (λ k low high. sym (ap (λ w. bit_at w k) found) ∙ c.lowest_bit-2.ensures.below k low)

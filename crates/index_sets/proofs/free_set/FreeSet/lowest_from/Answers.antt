@@ -1,7 +1,6 @@
-use Rattle.std.proofs.Common.{rules, arith, ◌≡◌, ◌≤◌, ◌<◌, ◌+◌, ◌*◌, ◌/◌, ◌%◌, ℕ, true, false, get_or, set, length, sym, ap, subst, ◌∙◌, length-set}
-use Rattle.std.specs.Int.{bit_at}
-use Rattle.index_sets.specs.Free.{is_free, count_free}
-use Rattle.index_sets.specs.Bits.{bit, free_in}
+use Rattle.std.proofs.Common.{arith, ◌≡◌, ℕ, true, sym, ap, ◌∙◌}
+use Rattle.index_sets.specs.Free.{is_free}
+use Rattle.index_sets.specs.Bits.{bit}
 use Rattle.index_sets.proofs.SetBits.{free_is, set_inside}
 use Rattle.index_sets.proofs.free_set.FreeSet.lowest_from.Goals as goal
 
@@ -19,7 +18,7 @@ overflow_cast-result c =
 pub returns-in-Some : goal.returns-in-Some
 returns-in-Some c =
     let seen : (i : ℕ) → is_free c.args.self.now i ≡ bit c.as_slice.result.now i = λ i.
-        ap (λ free. is_free free i) (sym c.self.view_is) ∙ free_is c.self.inside.words.items c.self.inside.size i c.self.invariant.within ∙ ap (λ words. bit words i) (sym c.as_slice.ensures.value) in
+    ap (λ free. is_free free i) (sym c.self.view_is) ∙ free_is c.self.inside.words.items c.self.inside.size i c.self.invariant.within ∙ ap (λ words. bit words i) (sym c.as_slice.ensures.value) in
     (c.in-Some.ensures.0, seen c.in-Some.number ∙ c.in-Some.ensures.1, λ i low high. seen i ∙ c.in-Some.ensures.2 i low high)
 
 pub returns-in-None : goal.returns-in-None

@@ -1,9 +1,9 @@
-use Rattle.std.proofs.Common.{rules, arith, ◌≡◌, ◌≢◌, List, ◌≤◌, ◌<◌, ◌+◌, ◌*◌, ◌/◌, ◌%◌, ℕ, true, false, get_or, set, length, sym, ap, subst, ◌∙◌, length-set, ◌⊎◌, ⊎_elim}
+use Rattle.std.proofs.Common.{rules, arith, ◌≡◌, ◌≢◌, List, ◌≤◌, ◌<◌, ◌+◌, ◌/◌, ◌%◌, ℕ, true, false, get_or, set, length, sym, ap, subst, ◌∙◌, length-set, ⊎_elim}
 use Rattle.std.proofs.lemmas.Bool.{cases_eq}
 use Rattle.std.specs.Int.{bit_at}
 use Rattle.index_sets.specs.Free.{is_free, count_free}
 use Rattle.index_sets.specs.Bits.{bit, free_in}
-use Rattle.index_sets.proofs.SetBits.{free_is, set_inside, length-free, free-set, ChangesBit, changes, count-taken, set_same}
+use Rattle.index_sets.proofs.SetBits.{free_is, set_inside, length-free, free-set, ChangesBit, changes, count-taken}
 use Rattle.index_sets.proofs.free_set.FreeSet.take.Goals as goal
 
 -- what taking a number that is free does to the words
@@ -49,10 +49,10 @@ invariant_of-self c =
     takes c.self.inside.words.items c.self.inside.size c.args.number c.without_bit.result c.self.invariant.words c.self.invariant.within free
     c.without_bit.ensures.here (λ k lt ne. c.without_bit.ensures.others k lt ne ∙ ap (λ w. bit_at w k) word) in
     let still : (i : ℕ) → bit c.self.inside.words.items i ≡ false → bit (set c.self.inside.words.items (c.args.number / 64) c.without_bit.result) i ≡ false = λ i was.
-        ⊎_elim
-            (λ (e : i ≡ c.args.number). ap (bit (set c.self.inside.words.items (c.args.number / 64) c.without_bit.result)) e ∙ taking.change.here)
-            (λ (ne : i ≢ c.args.number). taking.change.others i ne ∙ was)
-            (cases_eq i c.args.number) in
+    ⊎_elim
+    (λ (e : i ≡ c.args.number). ap (bit (set c.self.inside.words.items (c.args.number / 64) c.without_bit.result)) e ∙ taking.change.here)
+    (λ (ne : i ≢ c.args.number). taking.change.others i ne ∙ was)
+    (cases_eq i c.args.number) in
     let less = taking.count in
     let was = c.self.invariant.count in
     record {

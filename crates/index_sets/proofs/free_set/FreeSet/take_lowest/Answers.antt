@@ -1,7 +1,5 @@
-use Rattle.std.proofs.Common.{rules, arith, ◌≡◌, ◌≤◌, ◌<◌, ◌+◌, ◌*◌, ◌/◌, ◌%◌, ℕ, true, false, get_or, set, length, sym, ap, subst, ◌∙◌, get_or-set_other}
-use Rattle.std.specs.Int.{bit_at}
-use Rattle.index_sets.specs.Free.{is_free, count_free}
-use Rattle.index_sets.specs.Bits.{bit, free_in}
+use Rattle.std.proofs.Common.{arith, false, sym, ap, ◌∙◌, get_or-set_other}
+use Rattle.index_sets.specs.Free.{is_free}
 use Rattle.index_sets.proofs.SetBits.{free_is}
 use Rattle.index_sets.proofs.free_set.FreeSet.take_lowest.Goals as goal
 

@@ -1,7 +1,6 @@
-use Rattle.std.proofs.Common.{rules, ◌≡◌, ◌≢◌, ◌<◌, ◌≤◌, ◌*◌, ◌++◌, ◌∷◌, [], ℕ, Option, Some, None, true, false, replicate, get_or, set, length, ◌+◌, ◌-◌, List, sym, ap, subst, ◌∙◌, arith, refl, get_or-set_same, get_or-set_other, length-set}
+use Rattle.std.proofs.Common.{rules, ◌≡◌, ◌<◌, ◌≤◌, ℕ, None, get_or, set, sym, ap, ◌∙◌, arith, length-set}
 use Rattle.std.specs.Option.{is_some}
-use Rattle.index_sets.specs.Queue.{is_listed, without, first_of}
-use Rattle.index_sets.specs.Row.{IsRow, Agrees, listed_in, numbers_in}
+use Rattle.index_sets.specs.Row.{Agrees}
 use Rattle.index_sets.proofs.Gaps.{inside, length_cleared, has_is, cleared, agrees_clear, still_gap, gaps_to, first_is, numbers_without}
 use Rattle.index_sets.proofs.row.Row.clear.Goals as goal
 

@@ -1,8 +1,5 @@
-use Rattle.std.proofs.Common.{rules, ◌≡◌, ◌≢◌, ◌<◌, ◌≤◌, ◌*◌, ◌++◌, ◌∷◌, [], ℕ, Option, Some, None, true, false, replicate, get_or, set, length, ◌+◌, ◌-◌, List, sym, ap, subst, ◌∙◌, arith, refl, get_or-set_same, get_or-set_other, length-set, count_by, ◌⊎◌, ⊎_elim}
-use Rattle.std.specs.Option.{is_some}
-use Rattle.std.proofs.lemmas.Bool.{cases_eq, cases_lt}
-use Rattle.index_sets.specs.Queue.{is_listed, without, first_of}
-use Rattle.index_sets.specs.Row.{IsRow, IsPacking, Agrees, listed_in, numbers_in}
+use Rattle.std.proofs.Common.{rules, ◌≡◌, ◌≢◌, ◌<◌, ℕ, Option, Some, None, get_or, set, length, List, sym, ap, subst, ◌∙◌, arith, get_or-set_same, get_or-set_other, length-set, ⊎_elim}
+use Rattle.std.proofs.lemmas.Bool.{cases_eq}
 use Rattle.index_sets.proofs.Gaps.{agrees_move, numbers_moved, inside}
 use Rattle.index_sets.proofs.row.Row.move_front.Goals as goal
 
@@ -27,7 +24,7 @@ returns-in-Some-clause-packing c =
     let lt : to < length items = omega arith in
     let cleared : List (Option ℕ) = set items from None in
     let same : (p : ℕ) → p ≢ to → p ≢ from → get_or (set cleared to (Some number)) p None ≡ get_or items p None = λ p ne other.
-        get_or-set_other cleared to p (Some number) None ne ∙ get_or-set_other items from p None None other in
+    get_or-set_other cleared to p (Some number) None ne ∙ get_or-set_other items from p None None other in
     let first : get_or (set cleared to (Some number)) to None ≡ Some number = get_or-set_same cleared to (Some number) None (subst (λ n. to < n) (sym (length-set items from None)) lt) in
     record {
       agrees = agrees_move items places from to number is.agrees here lt (λ ne. is.gaps to (omega arith) (omega arith));

@@ -1,7 +1,6 @@
-use Rattle.std.proofs.Common.{rules, ◌≡◌, ◌≢◌, ◌<◌, ◌≤◌, ◌*◌, ◌++◌, ◌∷◌, [], ℕ, Option, Some, None, true, false, replicate, get_or, set, length, ◌+◌, ◌-◌, List, sym, ap, subst, ◌∙◌, arith, refl, get_or-set_same, get_or-set_other, length-set}
-use Rattle.std.specs.Option.{is_some}
-use Rattle.index_sets.specs.Queue.{is_listed, without, first_of}
-use Rattle.index_sets.specs.Row.{IsRow, Agrees, listed_in, numbers_in}
+use Rattle.std.proofs.Common.{rules, ◌≡◌, ◌*◌, [], ℕ, None, replicate, get_or, length, sym, ap, subst, ◌∙◌, arith}
+use Rattle.index_sets.specs.Queue.{first_of}
+use Rattle.index_sets.specs.Row.{Agrees, numbers_in}
 use Rattle.index_sets.proofs.Gaps.{agrees_none, numbers_none, gaps_alone}
 use Rattle.std.proofs.lemmas.List.{length-replicate}
 use Rattle.index_sets.proofs.row.Row.new.Goals as goal

@@ -1,8 +1,5 @@
-use Rattle.std.proofs.Common.{rules, ◌≡◌, ◌≢◌, ◌<◌, ◌≤◌, ◌*◌, ◌++◌, ◌∷◌, [], ℕ, Option, Some, None, true, false, replicate, get_or, set, length, ◌+◌, ◌-◌, List, sym, ap, subst, ◌∙◌, arith, refl, get_or-set_same, get_or-set_other, length-set, count_by, ◌⊎◌, ⊎_elim}
-use Rattle.std.specs.Option.{is_some}
-use Rattle.std.proofs.lemmas.Bool.{cases_eq, cases_lt}
-use Rattle.index_sets.specs.Queue.{is_listed, without, first_of}
-use Rattle.index_sets.specs.Row.{IsRow, IsPacking, Agrees, listed_in, numbers_in}
+use Rattle.std.proofs.Common.{◌≡◌, ◌<◌, ◌≤◌, ℕ, None, get_or, arith, ⊎_elim}
+use Rattle.std.proofs.lemmas.Bool.{cases_lt}
 use Rattle.index_sets.proofs.Gaps.{first_is, length_full}
 use Rattle.index_sets.proofs.row.Row.pack.Goals as goal
 
@@ -11,9 +8,9 @@ returns-clause-row c =
     let is = c.loop-from.invariant.packing in
     let items = c.loop-from.self.items.items in
     let past : (p : ℕ) → c.loop-from.to ≤ p → get_or items p None ≡ None = λ p le. ⊎_elim
-        (λ (lt : p < c.loop-from.from). is.gaps p le lt)
-        (λ (ge : c.loop-from.from ≤ p). is.past p (omega arith))
-        (cases_lt p c.loop-from.from) in
+    (λ (lt : p < c.loop-from.from). is.gaps p le lt)
+    (λ (ge : c.loop-from.from ≤ p). is.past p (omega arith))
+    (cases_lt p c.loop-from.from) in
     record {
       agrees = is.agrees;
       size = is.size;

@@ -1,8 +1,6 @@
-use Rattle.std.proofs.Common.{rules, ◌≡◌, ◌≢◌, ◌<◌, ◌≤◌, ◌*◌, ◌++◌, ◌∷◌, [], ℕ, Option, Some, None, true, false, replicate, get_or, set, length, ◌+◌, ◌-◌, List, sym, ap, subst, ◌∙◌, arith, refl, get_or-set_same, get_or-set_other, length-set, count_by, ◌⊎◌, ⊎_elim}
-use Rattle.std.specs.Option.{is_some}
-use Rattle.std.proofs.lemmas.Bool.{cases_eq, cases_lt}
-use Rattle.index_sets.specs.Queue.{is_listed, without, first_of}
-use Rattle.index_sets.specs.Row.{IsRow, IsPacking, Agrees, listed_in, numbers_in}
+use Rattle.std.proofs.Common.{rules, ◌≡◌, ◌≢◌, ◌<◌, ◌≤◌, ◌++◌, ◌∷◌, [], ℕ, Some, None, false, get_or, set, length, ◌+◌, sym, ap, subst, ◌∙◌, arith, get_or-set_other, length-set}
+use Rattle.index_sets.specs.Queue.{is_listed}
+use Rattle.index_sets.specs.Row.{IsRow, listed_in}
 use Rattle.index_sets.specs.declared.row.Row.{Row}
 use Rattle.index_sets.proofs.Gaps.{agrees_put, gaps_to, first_is, numbers_put, no_place, length_put, fewer}
 use Rattle.index_sets.proofs.row.Row.push_last.Goals as goal

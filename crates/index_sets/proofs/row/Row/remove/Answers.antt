@@ -1,7 +1,5 @@
-use Rattle.std.proofs.Common.{rules, ◌≡◌, ◌≢◌, ◌<◌, ◌≤◌, ◌*◌, ◌++◌, ◌∷◌, [], ℕ, Option, Some, None, true, false, replicate, get_or, set, length, ◌+◌, ◌-◌, List, sym, ap, subst, ◌∙◌, arith, refl, get_or-set_same, get_or-set_other, length-set}
+use Rattle.std.proofs.Common.{rules, ◌≡◌, None, get_or, sym, ap, ◌∙◌}
 use Rattle.std.specs.Option.{is_some}
-use Rattle.index_sets.specs.Queue.{is_listed, without, first_of}
-use Rattle.index_sets.specs.Row.{IsRow, Agrees, listed_in, numbers_in}
 use Rattle.index_sets.proofs.Gaps.{numbers_not, has_is}
 use Rattle.index_sets.proofs.row.Row.remove.Goals as goal
 
