@@ -125,7 +125,8 @@ impl FreeSet {
         self.count -= 1;
     }
 
-    /// Takes the lowest free number, None where none is free. All calls that empty a set look at each word once.
+    /// Takes the lowest free number, None where none is free. It starts at the word where the last call found one, so a run of
+    /// calls looks at each word once.
     pub fn take_lowest(&mut self) -> Option<u32>
         ensures { TakesLowest self.old result self.new }
     {

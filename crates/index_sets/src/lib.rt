@@ -10,3 +10,6 @@ mod words;
 
 pub use free_set::FreeSet;
 pub use index_queue::IndexQueue;
+
+#[cfg(test)]
+mod tests;
