@@ -1,9 +1,9 @@
 -- Words of bits, and the sets that they hold.
-use Rattle.std.proofs.Common.{◌≡◌, ◌≢◌, ◌⊎◌, ℕ, zero, suc, ◌+◌, ◌-◌, ◌*◌, ◌/◌, ◌%◌, ◌<◌, ◌≤◌, Bool, true, false, cond, ◌==◌, Some, max, List, [], ◌∷◌, length, get_or, set, map, replicate, refl, sym, ap, subst, ◌∙◌, arith, inl, inr, ⊎_elim, get_or-set_same, get_or-set_other, eq-eqb}
+use Rattle.std.proofs.Common.{length-set, ◌≡◌, ◌≢◌, ℕ, zero, suc, ◌+◌, ◌-◌, ◌*◌, ◌/◌, ◌%◌, ◌<◌, ◌≤◌, Bool, true, false, cond, ◌==◌, Some, max, List, [], ◌∷◌, length, get_or, set, map, replicate, refl, sym, ap, subst, ◌∙◌, arith, ⊎_elim, get_or-set_same, get_or-set_other, eq-eqb}
 use Rattle.std.proofs.lemmas.Bool.{cases_eq, cases_lt}
-use Rattle.std.proofs.lemmas.List.{get_or_past, get_or-replicate, length-replicate, set-get_or}
+use Rattle.std.proofs.lemmas.List.{get_or_past, get_or-replicate, length-replicate, set-get_or, same_lists}
 use Rattle.std.proofs.lemmas.List.FromFn.{length-map-range_with_len, get_or-map-range_with_len}
-use Rattle.std.proofs.lemmas.List.Sums.{sum_by-set, sum_by-append, count_by-le-length}
+use Rattle.std.proofs.lemmas.List.Sums.{sum_by-set, sum_by-append}
 use Rattle.std.proofs.lemmas.Nat.Bits.{bit_at-zero}
 use Rattle.std.specs.Int.{bit_at}
 use Rattle.std.specs.List.{range_with_len}
@@ -14,73 +14,85 @@ pub length-free : (words : List ℕ) (size : ℕ) → length (free_in words size
 unfolding free_in
 length-free words size = length-map-range_with_len (bit words) 0 size
 
-pub free-at : (words : List ℕ) (size i : ℕ) → i < size → is_free (free_in words size) i ≡ bit words i
+free-by : (words : List ℕ) (size i : ℕ) (d : Bool) → i < size → get_or (free_in words size) i d ≡ bit words i
 unfolding free_in
-free-at words size i lt = get_or-map-range_with_len (bit words) 0 size i i false lt (omega arith)
+free-by words size i d lt = get_or-map-range_with_len (bit words) 0 size i i d lt (omega arith)
 
 pub free-past : (words : List ℕ) (size i : ℕ) → size ≤ i → is_free (free_in words size) i ≡ false
 free-past words size i le = let n = length-free words size in get_or_past (free_in words size) i false (omega arith)
 
-map_but : (f g : ℕ → Bool) (b : Bool) (a n i : ℕ) → a ≤ i → g i ≡ b → ((k : ℕ) → k ≢ i → g k ≡ f k) → map g (range_with_len a n) ≡ set (map f (range_with_len a n)) (i - a) b
-map_but f g b a zero i low here others = refl
-map_but f g b a (suc n) i low here others = ⊎_elim
-    (λ (e : i ≡ a). (let at : i - a ≡ zero = omega arith in
-    (λ z. (ap g (sym e) ∙ here) z ∷ all_same f g (a + 1) n (λ k le. others k (λ q. omega arith)) z)
-    ∙ ap (λ j. set (f a ∷ map f (range_with_len (a + 1) n)) j b) (sym at)))
-    (λ (ne : i ≢ a). (let at : i - a ≡ suc (i - (a + 1)) = omega arith in
-    (λ z. others a (λ q. ne (sym q)) z ∷ map_but f g b (a + 1) n i (omega arith) here others z)
-    ∙ ap (λ j. set (f a ∷ map f (range_with_len (a + 1) n)) j b) (sym at)))
-    (cases_eq i a)
-  where
-    all_same : (f g : ℕ → Bool) (a n : ℕ) → ((k : ℕ) → a ≤ k → g k ≡ f k) → map g (range_with_len a n) ≡ map f (range_with_len a n)
-    all_same f g a zero h = refl
-    all_same f g a (suc n) h = λ z. h a (omega arith) z ∷ all_same f g (a + 1) n (λ k le. h k (omega arith)) z
+-- a number is free by its bit, also one past the size
+pub free_is : (words : List ℕ) (size i : ℕ) → ((k : ℕ) → size ≤ k → bit words k ≡ false) → is_free (free_in words size) i ≡ bit words i
+free_is words size i within = ⊎_elim (λ (lt : i < size). free-by words size i false lt) (λ (ge : size ≤ i). free-past words size i ge ∙ sym (within i ge)) (cases_lt i size)
 
--- one bit changes one number
-pub free-set : (words other : List ℕ) (size i : ℕ) (b : Bool) → bit other i ≡ b → ((k : ℕ) → k ≢ i → bit other k ≡ bit words k) → free_in other size ≡ set (free_in words size) i b
-unfolding free_in
-free-set words other size i b here others = map_but (bit words) (bit other) b 0 size i (omega arith) here others ∙ (let at : i - 0 ≡ i = omega arith in ap (λ j. set (map (bit words) (range_with_len 0 size)) j b) at)
+pub set_inside : (words : List ℕ) (size i : ℕ) → ((k : ℕ) → size ≤ k → bit words k ≡ false) → bit words i ≡ true → i < size
+set_inside words size i within is = ⊎_elim (λ (lt : i < size). lt) (λ (ge : size ≤ i). let e = within i ge in cc) (cases_lt i size)
 
--- a word is changed
-pub bit-here : (words : List ℕ) (word i : ℕ) (b : ℕ) → i / 64 < length words → bit_at word (i % 64) ≡ b → bit (set words (i / 64) word) i ≡ (b == 1)
+-- a bit by its word
+pub bit_at_place : (words : List ℕ) (i at b : ℕ) → i / 64 ≡ at → i % 64 ≡ b → bit words i ≡ (bit_at (get_or words at 0) b == 1)
 unfolding bit
-bit-here words word i b lt is = ap (λ w. bit_at w (i % 64) == 1) (get_or-set_same words (i / 64) word 0 lt) ∙ ap (λ c. c == 1) is
+bit_at_place words i at b e f = λ z. bit_at (get_or words (e z) 0) (f z) == 1
 
-pub bit-elsewhere : (words : List ℕ) (word at i : ℕ) → at < length words → i / 64 ≢ at ⊎ (bit_at word (i % 64) ≡ bit_at (get_or words at 0) (i % 64)) → bit (set words at word) i ≡ bit words i
-unfolding bit
-bit-elsewhere words word at i lt far = ⊎_elim
-    (λ (ne : i / 64 ≢ at). ap (λ w. bit_at w (i % 64) == 1) (get_or-set_other words at (i / 64) word 0 ne))
-    (λ (same : bit_at word (i % 64) ≡ bit_at (get_or words at 0) (i % 64)). ⊎_elim
-    (λ (e : i / 64 ≡ at). subst (λ q. (bit_at (get_or (set words at word) q 0) (i % 64) == 1) ≡ (bit_at (get_or words q 0) (i % 64) == 1)) (sym e)
-    (ap (λ w. bit_at w (i % 64) == 1) (get_or-set_same words at word 0 lt) ∙ ap (λ c. c == 1) same))
-    (λ (ne : i / 64 ≢ at). ap (λ w. bit_at w (i % 64) == 1) (get_or-set_other words at (i / 64) word 0 ne))
-    (cases_eq (i / 64) at))
-    far
+bit_set : (words : List ℕ) (i at b : ℕ) → i / 64 ≡ at → i % 64 ≡ b → bit_at (get_or words at 0) b ≡ 1 → bit words i ≡ true
+bit_set words i at b e f h = bit_at_place words i at b e f ∙ eq-eqb _ 1 h
 
--- the same word, and another bit
-pub same_or_far : (i k at : ℕ) → i / 64 ≡ at → k ≢ i → (k / 64 ≢ at) ⊎ (k % 64 ≢ i % 64)
-same_or_far i k at e ne = ⊎_elim (λ (same : k / 64 ≡ at). inr (λ q. ne (omega arith))) (λ (far : k / 64 ≢ at). inl far) (cases_eq (k / 64) at)
+bit_clear : (words : List ℕ) (i at b : ℕ) → i / 64 ≡ at → i % 64 ≡ b → bit_at (get_or words at 0) b ≡ 0 → bit words i ≡ false
+bit_clear words i at b e f h = bit_at_place words i at b e f ∙ ap (λ n. n == 1) h
 
-one_more : (items : List Bool) (i : ℕ) → i < length items → is_free items i ≡ false → count_free (set items i true) ≡ count_free items + 1
-one_more items i lt none =
-    let s = sum_by-set (λ (b : Bool). cond {A = ℕ} b 1 0) items i true false lt in
-    let z : ◌≡◌ {A = ℕ} (cond (is_free items i) 1 0) 0 = ap (λ b. cond b 1 0) none in
+bit_of_zero : (words : List ℕ) (i : ℕ) → get_or words (i / 64) 0 ≡ 0 → bit words i ≡ false
+bit_of_zero words i zeros = bit_clear words i (i / 64) (i % 64) refl refl (ap (λ w. bit_at w (i % 64)) zeros ∙ bit_at-zero (i % 64))
+
+-- a word with one bit changed changes one number
+pub record ChangesBit (words other : List ℕ) (i : ℕ) (b : Bool) : Type 0 where
+  pub here : bit other i ≡ b
+  pub others : (k : ℕ) → k ≢ i → bit other k ≡ bit words k
+
+pub changes : (words : List ℕ) (word i c : ℕ) → i / 64 < length words → bit_at word (i % 64) ≡ c → ((k : ℕ) → k < 64 → k ≢ i % 64 → bit_at word k ≡ bit_at (get_or words (i / 64) 0) k) → ChangesBit words (set words (i / 64) word) i (c == 1)
+changes words word i c lt is others = record {
+  here = bit_at_place (set words (i / 64) word) i (i / 64) (i % 64) refl refl ∙ ap (λ w. bit_at w (i % 64) == 1) (get_or-set_same words (i / 64) word 0 lt) ∙ ap (λ d. d == 1) is;
+  others = λ k ne. ⊎_elim
+      (λ (e : k / 64 ≡ i / 64). bit_at_place (set words (i / 64) word) k (i / 64) (k % 64) e refl
+      ∙ ap (λ w. bit_at w (k % 64) == 1) (get_or-set_same words (i / 64) word 0 lt) ∙ ap (λ d. d == 1) (others (k % 64) (omega arith) (λ same. ne (omega arith)))
+      ∙ sym (bit_at_place words k (i / 64) (k % 64) e refl))
+      (λ (far : k / 64 ≢ i / 64). bit_at_place (set words (i / 64) word) k (k / 64) (k % 64) refl refl
+      ∙ ap (λ w. bit_at w (k % 64) == 1) (get_or-set_other words (i / 64) (k / 64) word 0 far) ∙ sym (bit_at_place words k (k / 64) (k % 64) refl refl))
+      (cases_eq (k / 64) (i / 64));
+}
+
+pub free-set : (words other : List ℕ) (size i : ℕ) (b : Bool) → ChangesBit words other i b → free_in other size ≡ set (free_in words size) i b
+free-set words other size i b change = same_lists (free_in other size) (set (free_in words size) i b)
+    (length-free other size ∙ sym (length-set (free_in words size) i b ∙ length-free words size))
+    (λ k d lt.
+    let below : k < size = subst (λ n. k < n) (length-free other size) lt in
+    let inside : k < length (free_in words size) = subst (λ n. k < n) (sym (length-free words size)) below in
+    free-by other size k d below ∙ ⊎_elim
+    (λ (e : k ≡ i). ap (bit other) e ∙ change.here
+    ∙ sym (ap (λ j. get_or (set (free_in words size) i b) j d) e ∙ get_or-set_same (free_in words size) i b d (subst (λ j. j < length (free_in words size)) e inside)))
+    (λ (ne : k ≢ i). change.others k ne ∙ sym (get_or-set_other (free_in words size) i k b d ne ∙ free-by words size k d below))
+    (cases_eq k i))
+
+-- how many are free after one was given or taken
+pub count-given : (free : List Bool) (i : ℕ) → i < length free → is_free free i ≡ false → count_free (set free i true) ≡ count_free free + 1
+count-given free i lt none =
+    let s = sum_by-set (λ (b : Bool). cond {A = ℕ} b 1 0) free i true false lt in
+    let z : ◌≡◌ {A = ℕ} (cond (is_free free i) 1 0) 0 = ap (λ b. cond b 1 0) none in
     omega arith
 
-pub count-given : (items : List Bool) (i : ℕ) → i < length items → is_free items i ≡ false → count_free (set items i true) ≡ count_free items + 1
-count-given = one_more
-
-pub count-taken : (items : List Bool) (i : ℕ) → i < length items → is_free items i ≡ true → count_free (set items i false) + 1 ≡ count_free items
-count-taken items i lt some =
-    let s = sum_by-set (λ (b : Bool). cond {A = ℕ} b 1 0) items i false false lt in
-    let z : ◌≡◌ {A = ℕ} (cond (is_free items i) 1 0) 1 = ap (λ b. cond b 1 0) some in
+pub count-taken : (free : List Bool) (i : ℕ) → i < length free → is_free free i ≡ true → count_free (set free i false) + 1 ≡ count_free free
+count-taken free i lt some =
+    let s = sum_by-set (λ (b : Bool). cond {A = ℕ} b 1 0) free i false false lt in
+    let z : ◌≡◌ {A = ℕ} (cond (is_free free i) 1 0) 1 = ap (λ b. cond b 1 0) some in
     omega arith
 
--- zeros hold nothing
+pub set_same : (free : List Bool) (i : ℕ) (b : Bool) → is_free free i ≡ b → free ≡ set free i b
+set_same free i b is = sym (ap (set free i) (sym is) ∙ set-get_or free i false)
+
+-- words of zeros
 pub bit-zeros : (n i : ℕ) → bit (replicate n 0) i ≡ false
-unfolding bit
-bit-zeros n i = ap (λ w. bit_at w (i % 64) == 1) (⊎_elim (λ (lt : i / 64 < n). get_or-replicate n (i / 64) 0 0 lt) (λ (ge : n ≤ i / 64). get_or_past (replicate n 0) (i / 64) 0 (subst (λ m. m ≤ i / 64) (sym (length-replicate n 0)) ge)) (cases_lt (i / 64) n))
-    ∙ ap (λ b. b == 1) (bit_at-zero (i % 64))
+bit-zeros n i = bit_of_zero (replicate n 0) i (⊎_elim
+    (λ (lt : i / 64 < n). get_or-replicate n (i / 64) 0 0 lt)
+    (λ (ge : n ≤ i / 64). get_or_past (replicate n 0) (i / 64) 0 (subst (λ m. m ≤ i / 64) (sym (length-replicate n 0)) ge))
+    (cases_lt (i / 64) n))
 
 pub free-none : (words : List ℕ) (size : ℕ) → ((i : ℕ) → bit words i ≡ false) → free_in words size ≡ replicate size false
 unfolding free_in
@@ -91,52 +103,8 @@ free-none words size none = by_length 0 size
     by_length a (suc n) = λ z. none a z ∷ by_length (a + 1) n z
 
 pub count-none : (n : ℕ) → count_free (replicate n false) ≡ 0
-count-none n = by_length n
-  where
-    by_length : (n : ℕ) → count_free (replicate n false) ≡ 0
-    by_length zero = refl
-    by_length (suc n) = let c = sum_by-append (λ b. cond b 1 0) (false ∷ []) (replicate n false) in let r = by_length n in omega arith
-
--- a word with one bit changed changes one number
-pub record ChangesBit (words other : List ℕ) (i : ℕ) (b : Bool) : Type 0 where
-  pub here : bit other i ≡ b
-  pub others : (k : ℕ) → k ≢ i → bit other k ≡ bit words k
-
-pub changes : (words : List ℕ) (word i c : ℕ) → i / 64 < length words → bit_at word (i % 64) ≡ c → ((k : ℕ) → k < 64 → k ≢ i % 64 → bit_at word k ≡ bit_at (get_or words (i / 64) 0) k) → ChangesBit words (set words (i / 64) word) i (c == 1)
-changes words word i c lt is others = record {
-  here = bit-here words word i c lt is;
-  others = λ k ne. bit-elsewhere words word (i / 64) k lt (⊎_elim (λ far. inl far) (λ far. inr (others (k % 64) (omega arith) far)) (same_or_far i k (i / 64) refl ne));
-}
-
-pub count_most : (words : List ℕ) (size : ℕ) → count_free (free_in words size) ≤ size
-count_most words size = subst (λ n. count_free (free_in words size) ≤ n) (length-free words size) (count_by-le-length (λ b. b) (free_in words size))
-
-pub set_same : (items : List Bool) (i : ℕ) (b : Bool) → is_free items i ≡ b → items ≡ set items i b
-set_same items i b is = sym (ap (set items i) (sym is) ∙ set-get_or items i false)
-
-pub set_past : (items : List Bool) (i : ℕ) (b : Bool) → length items ≤ i → items ≡ set items i b
-set_past items i b le = by_length items i le
-  where
-    by_length : (items : List Bool) (i : ℕ) → length items ≤ i → items ≡ set items i b
-    by_length [] i le = refl
-    by_length (x ∷ xs) zero le = absurd (omega arith)
-    by_length (x ∷ xs) (suc i) le = λ z. x ∷ by_length xs i (omega arith) z
-
--- a bit by its word
-pub bit_at_place : (words : List ℕ) (i at b : ℕ) → i / 64 ≡ at → i % 64 ≡ b → bit words i ≡ (bit_at (get_or words at 0) b == 1)
-unfolding bit
-bit_at_place words i at b e f = λ z. bit_at (get_or words (e z) 0) (f z) == 1
-
-bit_set : (words : List ℕ) (i at b : ℕ) → i / 64 ≡ at → i % 64 ≡ b → bit_at (get_or words at 0) b ≡ 1 → bit words i ≡ true
-unfolding bit
-bit_set words i at b e f h = (λ z. bit_at (get_or words (e z) 0) (f z) == 1) ∙ eq-eqb _ 1 h
-
-bit_clear : (words : List ℕ) (i at b : ℕ) → i / 64 ≡ at → i % 64 ≡ b → bit_at (get_or words at 0) b ≡ 0 → bit words i ≡ false
-unfolding bit
-bit_clear words i at b e f h = (λ z. bit_at (get_or words (e z) 0) (f z) == 1) ∙ ap (λ n. n == 1) h
-
-bit_of_zero : (words : List ℕ) (i : ℕ) → get_or words (i / 64) 0 ≡ 0 → bit words i ≡ false
-bit_of_zero words i zeros = bit_clear words i (i / 64) (i % 64) refl refl (ap (λ w. bit_at w (i % 64)) zeros ∙ bit_at-zero (i % 64))
+count-none zero = refl
+count-none (suc n) = let c = sum_by-append (λ b. cond b 1 0) (false ∷ []) (replicate n false) in let r = count-none n in omega arith
 
 -- no bit is set behind the words
 pub bit_past : (words : List ℕ) (i : ℕ) → 64 * length words ≤ i → bit words i ≡ false
@@ -176,10 +144,3 @@ lowest_in_rest words from rest b is lt here below =
     let le : from % 64 ≤ b = ⊎_elim (λ (low : b < from % 64). absurd (let e = is.below b low in omega arith)) (λ (high : from % 64 ≤ b). high) (cases_lt b (from % 64)) in
     lowest_here words from (from / 64) b lt (omega arith) (λ i low high. absurd (omega arith)) (sym (is.above b le lt) ∙ here)
     (λ k low high. sym (is.above k (omega arith) (omega arith)) ∙ below k low)
-
--- a number is free by its bit, also one past the size
-pub free_is : (words : List ℕ) (size i : ℕ) → ((k : ℕ) → size ≤ k → bit words k ≡ false) → is_free (free_in words size) i ≡ bit words i
-free_is words size i within = ⊎_elim (λ (lt : i < size). free-at words size i lt) (λ (ge : size ≤ i). free-past words size i ge ∙ sym (within i ge)) (cases_lt i size)
-
-pub set_inside : (words : List ℕ) (size i : ℕ) → ((k : ℕ) → size ≤ k → bit words k ≡ false) → bit words i ≡ true → i < size
-set_inside words size i within is = ⊎_elim (λ (lt : i < size). lt) (λ (ge : size ≤ i). let e = within i ge in cc) (cases_lt i size)

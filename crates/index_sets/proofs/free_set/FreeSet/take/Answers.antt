@@ -18,7 +18,7 @@ takes : (words : List ℕ) (size i word : ℕ) → length words ≡ (size + 63) 
 takes words size i word length within free clear others =
     let inside : i < size = set_inside words size i within (sym (free_is words size i within) ∙ free) in
     let change : ChangesBit words (set words (i / 64) word) i false = changes words word i 0 (omega arith) clear others in
-    let taken : free_in (set words (i / 64) word) size ≡ set (free_in words size) i false = free-set words (set words (i / 64) word) size i false change.here change.others in
+    let taken : free_in (set words (i / 64) word) size ≡ set (free_in words size) i false = free-set words (set words (i / 64) word) size i false change in
     record {
       inside = inside;
       change = change;
