@@ -9,8 +9,8 @@ use std::alloc::Global;
 use std::marker::Model;
 
 /// A queue of different numbers below a size, as of the entries that became dirty, the oldest first. A number is added at the
-/// end and leaves from any place, both without a search. All its memory is taken when it is made: 32 bytes for each number
-/// below the size.
+/// end and leaves from any place, both without a search; at most once in as many adds as the size, an add takes the gaps out
+/// that numbers left behind. All its memory is taken when it is made: 32 bytes for each number below the size.
 #[derive(Drop)]
 pub struct IndexQueue {
     row: Row,
