@@ -1,0 +1,3 @@
+mod Gaps
+mod SetBits
+mod BitCounts

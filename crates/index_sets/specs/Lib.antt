@@ -1,0 +1,4 @@
+pub mod Bits
+pub mod Free
+pub mod Queue
+pub mod Row
