@@ -23,6 +23,4 @@ pub use super_block::{has_inode, has_sizes, inodes_of};
 pub use write::write_refusal_of;
 
 #[cfg(test)]
-mod memory;
-#[cfg(test)]
 mod tests;

@@ -1,9 +1,11 @@
 //! Numbers of a small volume that was worked by hand.
 
 use super::*;
-use crate::memory::Memory;
 use files_model::Kind;
+use stable::NoMemory;
+use std::alloc::Global;
 use std::test::Fail;
+use store_mem::Memory;
 use v7_layout::Inode;
 
 #[test]
@@ -33,25 +35,22 @@ fn two_bytes_fall_into_two_sectors(rt: HostRuntime) -> Result<(), Fail> {
 }
 
 // Ten direct addresses in the inode, and 128 of four bytes in its single indirect block, sector 2.
-fn with_indirect_block() -> (Memory, Inode) {
-    let mut store = Memory {
-        sectors: [[0; 512]; 4],
-        puts: 0,
-    };
-    store.sectors[2][0] = 1;
-    store.sectors[2][7] = 255;
-    store.sectors[2][508] = 3;
+fn with_indirect_block(alloc: Global) -> Result<(Memory, Inode), NoMemory> {
+    let mut sectors = [[0; 512]; 4];
+    sectors[2][0] = 1;
+    sectors[2][7] = 255;
+    sectors[2][508] = 3;
     let mut inode = Inode::read(&[0; 64]);
     inode.direct[0] = 3;
     inode.direct[1] = 4;
     inode.direct[9] = 2;
     inode.single = 2;
-    (store, inode)
+    Ok((Memory::new(alloc, &sectors)?, inode))
 }
 
 #[test]
 fn addresses_stand_in_the_inode_and_in_its_indirect_block(rt: HostRuntime) -> Result<(), Fail> {
-    let (mut store, inode) = with_indirect_block();
+    let (mut store, inode) = with_indirect_block(rt.alloc()).map_err(|_| "memory")?;
     // Sector 1 of the body and sector 11 have addresses past a store of four sectors.
     for (index, sector) in [
         (0, 3),

@@ -21,6 +21,4 @@ pub use mounted::Volume;
 pub use outcome::Outcome;
 
 #[cfg(test)]
-mod memory;
-#[cfg(test)]
 mod tests;

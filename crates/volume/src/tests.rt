@@ -2,12 +2,12 @@
 
 ghost use Rattle.v7_layout.specs.Written.{AddressesFit};
 
-use crate::memory::{Memory, SECTORS};
 use crate::{Outcome, Volume};
 use files_model::{Attr, Call, Cred, Data, FileId, Gids, Kind, Reply, Stat};
-use stable::{Answer, Battery, Command, FlushAnswer, State};
+use stable::{Answer, Battery, Command, FlushAnswer, NoMemory, State};
 use std::alloc::Global;
 use std::test::Fail;
+use store_mem::Memory;
 use v7_layout::{Inode, Super};
 
 const FILE: FileId = FileId {
@@ -52,8 +52,8 @@ fn attributes(changed: u32) -> Attr {
 }
 
 // A volume `VOLA00` of 64 sectors, of which four are inodes and what stands before them, with the file and a root.
-fn store() -> Memory {
-    let mut sectors = [[0; 512]; SECTORS];
+fn store(alloc: Global) -> Result<Memory, NoMemory> {
+    let mut sectors = [[0; 512]; 64];
     let mut super_block = Super::read(&[0; 512]);
     super_block.s_isize = 4;
     super_block.s_fsize = 64;
@@ -67,11 +67,12 @@ fn store() -> Memory {
     sectors[2][112] = 1;
     sectors[5] = [b'a'; 512];
     sectors[6] = [b'a'; 512];
-    Memory::new(sectors)
+    Memory::new(alloc, &sectors)
 }
 
 fn opened(alloc: Global) -> Result<Volume<Memory>, Fail> {
-    Ok(Volume::open(alloc, store()).map_err(|_| "no volume")?)
+    let store = store(alloc).map_err(|_| "memory")?;
+    Ok(Volume::open(alloc, store).map_err(|_| "no volume")?)
 }
 
 fn owner() -> Cred {
@@ -102,11 +103,11 @@ fn a_write_across_two_sectors_is_stored_before_its_reply(rt: HostRuntime) -> Res
     let written = volume.apply(&write, &owner(), 2000);
     assert!(rt; matches!(&written, Outcome::Reply(Reply::Attr(attr)) if *attr == attributes(2000)));
     let store = volume.into_store();
-    assert!(rt; store.puts == 3 && store.order == [5, 6, 2, 0]);
-    let sectors = store.sectors;
-    assert!(rt; sectors[5][510..] == b"aX"[..] && sectors[6][..2] == b"Ya"[..]);
+    assert!(rt; store.puts == 3 && store.order[..3] == [5, 6, 2][..]);
+    let (first, second, inodes) = (store.sector(5), store.sector(6), store.sector(2));
+    assert!(rt; first[510..] == b"aX"[..] && second[..2] == b"Ya"[..]);
     // atime, mtime and ctime
-    assert!(rt; sectors[2][180..192] == b"\xe8\x03\0\0\xd0\x07\0\0\xd0\x07\0\0"[..]);
+    assert!(rt; inodes[180..192] == b"\xe8\x03\0\0\xd0\x07\0\0\xd0\x07\0\0"[..]);
     Ok(())
 }
 
