@@ -66,3 +66,30 @@ fn addresses_stand_in_the_inode_and_in_its_indirect_block(rt: HostRuntime) -> Re
     }
     Ok(())
 }
+
+#[test]
+fn the_places_of_an_inode_are_read_as_they_are_stored(rt: HostRuntime) -> Result<(), Fail> {
+    let (mut store, mut inode) = with_indirect_block(rt.alloc()).map_err(|_| "memory")?;
+    let free = read_places(&mut store, &inode);
+    assert!(rt; free == Ok([0; 140]));
+    inode.mode = 0o100_644;
+    inode.double = 9;
+    let places = read_places(&mut store, &inode).map_err(|_| "failed")?;
+    for (place, block) in [
+        (0, 3),
+        (1, 4),
+        (2, 0),
+        (9, 2),
+        (10, 2),
+        (11, 1),
+        (12, 0xff00_0000),
+        (138, 3),
+        (139, 9),
+    ] {
+        assert!(rt; places.get(place) == Some(&block), "place {place}");
+    }
+    inode.single = 4;
+    let places = read_places(&mut store, &inode).map_err(|_| "failed")?;
+    assert!(rt; places[10] == 4 && places[11] == 0 && places[138] == 0);
+    Ok(())
+}

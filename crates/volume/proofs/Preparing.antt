@@ -25,8 +25,8 @@ use Rattle.v7_map.proofs.SectorOf.{sector_in-address}
 use Rattle.v7_map.proofs.Ranges.{inode_sector-inside}
 use Rattle.v7_map.proofs.Splices.{PutsInode-bytes}
 use Rattle.v7_map.proofs.WriteAnswers.{write_puts-IsPlanOf, write_puts-frames, write-answer}
-use Rattle.volume.specs.declared.found.Found.{Found}
-use Rattle.volume.specs.Found.{IsFile, IsWritePlan, StandsPastSuperBlock}
+use Rattle.v7_map.specs.declared.found.Found.{Found}
+use Rattle.v7_map.specs.Found.{IsFile, IsWritePlan, StandsPastSuperBlock}
 use Rattle.volume.specs.Prepares.{IsReady, IsRefusal}
 
 -- a refused WRITE changes nothing

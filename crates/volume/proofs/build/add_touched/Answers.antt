@@ -5,7 +5,7 @@ use Rattle.files_model.specs.Files.{sectors_of}
 use Rattle.stable.specs.Store.{Image}
 use Rattle.v7_map.specs.Stored.{sector_in}
 use Rattle.v7_map.proofs.SectorOf.{touched-missing, touched-all, touched-some, touched-none}
-use Rattle.volume.specs.Found.{write_put}
+use Rattle.v7_map.specs.Found.{write_put}
 use Rattle.volume.proofs.Building.{map-more, touched-empty, none_low}
 use Rattle.volume.proofs.build.add_touched.Goals as goal
 

@@ -4,7 +4,7 @@ use Rattle.stable.specs.Moments.{LeavesOnly}
 use Rattle.stable.specs.Puts.{AllStand, AllPastSuperBlock}
 use Rattle.stable.specs.Store.{Same, StaysOpenable}
 use Rattle.v7_map.specs.Stored.{sector_in}
-use Rattle.volume.specs.Found.{write_put}
+use Rattle.v7_map.specs.Found.{write_put}
 use Rattle.volume.proofs.build.add_touched.Given as goal
 
 abbrev pub invariant-loop-index : goal.invariant-loop-index

@@ -2,7 +2,7 @@ use Rattle.std.proofs.Common.{rules, true, ◌≡◌, arith, sym, ap, get_or, []
 use Rattle.v7_layout.specs.Records.{super_of}
 use Rattle.v7_map.specs.Damage.{has_sizes}
 use Rattle.v7_map.specs.Image.{sector_at}
-use Rattle.volume.proofs.Whole.{as_long}
+use Rattle.v7_map.proofs.Whole.{as_long}
 use Rattle.volume.proofs.HasVolume.{opens_short, opens_read, name_read, root_read}
 use Rattle.volume.proofs.opening.look.Goals as goal
 

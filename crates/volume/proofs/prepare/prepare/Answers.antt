@@ -1,9 +1,9 @@
 use Rattle.std.proofs.Common.{rules, sym, subst, Option, None, true, false, ◌≡◌, length}
 use Rattle.stable.specs.Store.{Image}
 use Rattle.v7_map.specs.Stored.{has_touched}
-use Rattle.volume.specs.declared.found.Found.{Found}
-use Rattle.volume.specs.Found.{Finds, IsFile, IsWritePlan, StandsPastSuperBlock}
-use Rattle.volume.proofs.Whole.{whole_image}
+use Rattle.v7_map.specs.declared.found.Found.{Found}
+use Rattle.v7_map.specs.Found.{Finds, IsFile, IsWritePlan, StandsPastSuperBlock}
+use Rattle.v7_map.proofs.Whole.{whole_image}
 use Rattle.volume.proofs.Preparing.{refused_stale, refused_so, stands_past, refused_missing, ready}
 use Rattle.volume.proofs.prepare.prepare.Goals as goal
 

@@ -8,11 +8,11 @@ use Rattle.stable.specs.Store.{Image}
 use Rattle.stable.proofs.Clocked.{idles, weaker}
 use Rattle.v7_map.specs.Stored.{read_bytes}
 use Rattle.v7_map.specs.View.{view}
-use Rattle.volume.specs.declared.found.Found.{Found}
-use Rattle.volume.specs.Found.{Finds, IsFile}
+use Rattle.v7_map.specs.declared.found.Found.{Found}
+use Rattle.v7_map.specs.Found.{Finds, IsFile}
 use Rattle.volume.proofs.Applying.{torn_same, done_same, done_refused}
 use Rattle.volume.proofs.Reading.{read-idle, read_stale, read_refused, read_found}
-use Rattle.volume.proofs.Whole.{whole_image}
+use Rattle.v7_map.proofs.Whole.{whole_image}
 use Rattle.volume.proofs.read.read.Goals as goal
 
 pub returns-in-Ok-None-clause-applied : goal.returns-in-Ok-None-clause-applied

@@ -1,4 +1,4 @@
--- What a call finds of its file in an image, and what a WRITE makes of it.
+-- What a WRITE makes of its file.
 use Rattle.std.specs.Prelude.{◌≡◌, ◌≢◌, ℕ, ◌+◌, true, false, List, [], ◌∷◌, ◌++◌, length, take, drop, Option, Some, None}
 use Rattle.files_model.specs.declared.attributes.FileId.{FileId}
 use Rattle.files_model.specs.Files.{clipped}
@@ -9,19 +9,7 @@ use Rattle.stable.specs.Store.{Image}
 use Rattle.v7_map.specs.Image.{sector_at, inode_at, inode_sector, inode_offset, is_read_only}
 use Rattle.v7_map.specs.Plan.{written_inode}
 use Rattle.v7_map.specs.Stored.{is_standing, sector_in, write_puts}
-use Rattle.volume.specs.declared.found.Found.{Found}
-
--- the handle's file stands, and this is its inode in its sector
-pub record IsFile (image : Image) (file : FileId) (found : Found) : Type 0 where
-  pub stands : is_standing image file ≡ true
-  pub read_only : found.read_only ≡ is_read_only (sector_at image 1)
-  pub inode : found.inode ≡ inode_at image file.ino
-  pub sector : found.sector ≡ sector_at image (inode_sector file.ino)
-
--- what is found where nothing is to mend
-abbrev pub Finds : Image → FileId → Option Found → Type 0
-Finds image file None = is_standing image file ≡ false
-Finds image file (Some found) = IsFile image file found
+use Rattle.v7_map.specs.declared.found.Found.{Found}
 
 -- a sector in which inode i is replaced by another
 pub record ReplacesInode (sector : List ℕ) (i : ℕ) (n : Inode) (result : List ℕ) : Type 0 where
