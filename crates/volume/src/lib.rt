@@ -1,11 +1,8 @@
 //! The calls on a volume, over any store of its sectors.
 #![tactic(auto)]
 
-mod body;
 mod build;
 mod fault;
-mod find;
-mod found;
 mod getattr;
 mod mounted;
 mod opening;
@@ -13,7 +10,6 @@ mod outcome;
 mod prepare;
 mod prepared;
 mod read;
-mod sector;
 mod write;
 
 pub use fault::OpenFault;

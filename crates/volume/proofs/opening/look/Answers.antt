@@ -30,5 +30,5 @@ returns-clause-found g c told =
     record {
       sizes = opens_read image c.sectors-sectors.result c.read-super_block.result (shape.size ∙ sym c.sectors-sectors.ensures) is ∙ can;
       name_is = name_read image c.read-super_block.result is;
-      root_is = λ z. record { ino = 2; generation = root_read c.sectors-sectors.result c.read-super_block.result can image is _ (c.in-Ok-get_sector.ensures.done told ∙ (λ z. get_or (c.in-Ok.ensures.image z) (c.inode_sector_of.ensures z) [])) c.inode_in.result c.inode_in.ensures.inode z };
+      root_is = λ z. record { ino = 2; generation = root_read c.sectors-sectors.result c.read-super_block.result can image is _ (c.in-Ok-get_sector.ensures.done told ∙ (λ z. get_or (c.in-Ok.ensures.looked.image z) (c.inode_sector_of.ensures z) [])) c.inode_in.result c.inode_in.ensures.inode z };
     }
