@@ -15,16 +15,17 @@ use Rattle.v7_map.specs.Weak.{IsWeak}
 use Rattle.v7_map.specs.Stored.{address_within, sector_in, limited, has_touched}
 use Rattle.v7_map.proofs.Ranges.{address-inside}
 
+-- none, whatever a test says
+pub cond_none : (b : Bool) → ◌≡◌ {A = ℕ} (cond b 0 0) 0
+cond_none true = refl
+cond_none false = refl
+
 -- an address of the store is taken as it is, and so is none
 pub within-stays : (sectors a : ℕ) → a < sectors → address_within sectors a ≡ a
 within-stays sectors a lt z = cond (lt-ltb a sectors lt z) a 0
 
 pub within-none : (sectors a : ℕ) → a ≡ 0 → address_within sectors a ≡ 0
-within-none sectors a none = ap (address_within sectors) none ∙ either (ltb 0 sectors)
-  where
-    either : (b : Bool) → ◌≡◌ {A = ℕ} (cond b 0 0) 0
-    either true = refl
-    either false = refl
+within-none sectors a none = ap (address_within sectors) none ∙ cond_none (ltb 0 sectors)
 
 pub within-below : (sectors a : ℕ) → address_within sectors a ≢ 0 → address_within sectors a < sectors
 within-below sectors a some = ⊎_elim

@@ -1,4 +1,4 @@
-use Rattle.std.proofs.Common.{rules, sym, subst, Option, None, true, false, ◌≡◌, length}
+use Rattle.std.proofs.Common.{rules, sym, subst, Option, None, false, ◌≡◌, length}
 use Rattle.stable.specs.Store.{Image}
 use Rattle.v7_map.specs.Stored.{has_touched}
 use Rattle.v7_map.specs.declared.found.Found.{Found}

@@ -1,4 +1,4 @@
-use Rattle.std.proofs.Common.{◌≡◌, ◌≤◌, ◌-◌, ◌*◌, min, take, drop}
+use Rattle.std.proofs.Common.{◌≡◌, ◌-◌, ◌*◌, min, take, drop}
 use Rattle.std.specs.Prelude.{vec_len}
 use Rattle.stable.specs.Looked.{Looked}
 use Rattle.v7_map.specs.Image.{IsImage}
