@@ -2,6 +2,7 @@
 use Rattle.std.specs.Prelude.{◌≡◌, ◌≢◌, ℕ, ◌+◌, ◌%◌, ◌^◌, List, set, replicate, nat_lt, if◌then◌else◌, None, Result, Ok, Err}
 use Rattle.stable.specs.Counts.{one_more}
 use Rattle.stable.specs.Store.{Image}
+use Rattle.stable.specs.declared.battery.Battery.TheVariants.{Low}
 use Rattle.stable.specs.declared.failure.Failed.{Failed}
 use Rattle.store_mem.specs.declared.memory.Memory.{Memory}
 
@@ -14,6 +15,7 @@ pub record IsNew (sectors : Image) (store : Memory) : Type 0 where
   pub ups : store.ups ≡ 0
   pub faults : store.faults ≡ 0
   pub failing : store.failing ≡ 0
+  pub battery : store.battery ≡ Low
   pub stop : store.stop ≡ None
 
 -- One more put was asked for; it is one of the first eight, or comes after them.

@@ -174,14 +174,14 @@ impl SteeredStore for Memory {
 
     fn set_battery(&mut self, battery: Battery)
         ensures untouched { Untouched ⟦<Memory as Stable>⟧ self.old self.new }
-        ensures kept { self.new.battery ≡ battery }
+        ensures kept { self.new ≡ record self.old { battery = battery } }
     {
         self.battery = battery;
     }
 
     fn stop_after(&mut self, calls: u64, newer: bool)
         ensures untouched { Untouched ⟦<Memory as Stable>⟧ self.old self.new }
-        ensures kept { self.new.stop ≡ Some (calls, newer) }
+        ensures kept { self.new ≡ record self.old { stop = Some (calls, newer) } }
     {
         self.stop = Some((calls, newer));
     }
