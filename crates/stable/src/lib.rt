@@ -24,6 +24,4 @@ pub use store::Stable;
 pub use tended::Tended;
 
 #[cfg(test)]
-mod memory;
-#[cfg(test)]
 mod tests;

@@ -1,11 +1,6 @@
-//! A plan of as many sectors as one takes, and plans on a store that fails or doesn't.
+//! A plan of as many sectors as one takes.
 
-ghost use Rattle.std.specs.Prelude.{IfOk};
-ghost use Rattle.stable.specs.Puts.{AllStand};
-
-use crate::memory::{Memory, SECTORS};
-use crate::{Failed, NoMemory, Plan, run_plan};
-use std::alloc::Global;
+use crate::Plan;
 use std::test::Fail;
 
 // The put that a test makes as its `index`-th.
@@ -43,50 +38,5 @@ fn a_plan_takes_420_sectors_and_again_after_it_was_cleared(rt: HostRuntime) -> R
     assert!(rt; plan.puts().is_empty());
     fill(&mut plan);
     assert!(rt; is_filled(&plan));
-    Ok(())
-}
-
-// Four puts, two of them of sector 3.
-fn four_puts(alloc: Global) -> Result<Plan, NoMemory>
-    ensures { IfOk result (λ plan. AllStand 4 plan) }
-{
-    let mut plan = Plan::new(alloc)?;
-    plan.add(3, &[1; 512]);
-    plan.add(1, &[2; 512]);
-    plan.add(3, &[3; 512]);
-    plan.add(0, &[4; 512]);
-    Ok(plan)
-}
-
-// Runs them on an empty store, one of whose puts may fail. The answer, and the store then.
-fn run_four(alloc: Global, failing: u64) -> Result<(Result<(), Failed>, Memory), NoMemory> {
-    let plan = four_puts(alloc)?;
-    let mut store = Memory {
-        sectors: [[0; 512]; SECTORS],
-        puts: 0,
-        faults: 0,
-        failing,
-    };
-    let answer = run_plan(&mut store, &plan);
-    Ok((answer, store))
-}
-
-#[test]
-fn a_plan_is_put_in_order_up_to_the_first_failure(rt: HostRuntime) -> Result<(), Fail> {
-    // The failing put, what is answered, the bytes of each sector then, and how often a put was asked for.
-    let rows = [
-        (0, Ok(()), [4, 2, 0, 3], 4),
-        (3, Err(Failed), [0, 2, 0, 1], 3),
-        (1, Err(Failed), [0, 0, 0, 0], 1),
-    ];
-    for (failing, answer, bytes, asked) in rows {
-        let (answered, store) = run_four(rt.alloc(), failing).map_err(|_| "memory")?;
-        assert!(rt; answered == answer, "put {failing} fails");
-        assert!(rt;
-            store.sectors == bytes.map(|byte| [byte; 512]),
-            "put {failing} fails"
-        );
-        assert!(rt; store.puts == asked, "put {failing} fails");
-    }
     Ok(())
 }

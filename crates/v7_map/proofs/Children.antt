@@ -28,7 +28,7 @@ slot_from t d n i e =
     (at.0, at.1, s.0, at.3 ∙ s.1)
 
 -- slot k names i
-has_slot-at : (t : Tree) (d n i k : ℕ) (name : List ℕ) → n ≤ k → slot_at t d k ≡ Some (i, name) → list_any (is_slot_of i) (drop n (seen_slots t d)) ≡ true
+pub has_slot-at : (t : Tree) (d n i k : ℕ) (name : List ℕ) → n ≤ k → slot_at t d k ≡ Some (i, name) → list_any (is_slot_of i) (drop n (seen_slots t d)) ≡ true
 has_slot-at t d n i k name le at = any_in (is_slot_of i) (Some (i, name)) (drop n (seen_slots t d)) (In-get_or (seen_slots t d) n k (i, name) le at) (eq-eqb i i refl)
 
 module _ (f : Frame) (weak : IsWeak f) (is : IsFrame f) where

@@ -32,3 +32,7 @@ pub mod Children
 pub mod WriteAnswers
 pub mod Contents
 pub mod Answers
+pub mod Whole
+pub mod Holes
+pub mod Finding
+pub mod Listings

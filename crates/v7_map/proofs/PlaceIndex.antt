@@ -27,7 +27,7 @@ index_found Single can = (lit< tt, refl)
 index_found Double can = (lit< tt, refl)
 
 -- the places are different
-place_index : (n : ℕ) → n < 140 → ((n < 10) × (place_at n ≡ Body n)) ⊎ (((n ≡ 10) × (place_at n ≡ Single)) ⊎ (((10 < n) × (n < 139) × (place_at n ≡ Body (n - 1))) ⊎ ((n ≡ 139) × (place_at n ≡ Double))))
+pub place_index : (n : ℕ) → n < 140 → ((n < 10) × (place_at n ≡ Body n)) ⊎ (((n ≡ 10) × (place_at n ≡ Single)) ⊎ (((10 < n) × (n < 139) × (place_at n ≡ Body (n - 1))) ⊎ ((n ≡ 139) × (place_at n ≡ Double))))
 place_index n lt = ⊎_elim
     (λ (a : n < 10). inl (a, ap (λ b. cond b (Body n) (cond (n == 10) Single (cond (ltb n 139) (Body (n - 1)) Double))) (lt-ltb n 10 a)))
     (λ (a : 10 ≤ n). inr (⊎_elim

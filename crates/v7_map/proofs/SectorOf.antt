@@ -4,8 +4,7 @@ use Rattle.std.proofs.lemmas.Bool.{cases_lt, cases_eq, lt-ltb, le-ltb, ne_eqb}
 use Rattle.std.proofs.lemmas.List.Folds.{list_all_at}
 use Rattle.std.proofs.lemmas.List.FromFn.{get_or-range_with_len, length-range_with_len}
 use Rattle.std.specs.List.{range_with_len, list_all}
-use Rattle.stable.specs.Moments.{IsClocked}
-use Rattle.stable.specs.Store.{Image, HasSectors}
+use Rattle.stable.specs.Store.{Image}
 use Rattle.v7_layout.specs.declared.inode.Inode.{Inode}
 use Rattle.v7_layout.specs.Numbers.{field}
 use Rattle.files_model.specs.Files.{sectors_of}
@@ -16,16 +15,17 @@ use Rattle.v7_map.specs.Weak.{IsWeak}
 use Rattle.v7_map.specs.Stored.{address_within, sector_in, limited, has_touched}
 use Rattle.v7_map.proofs.Ranges.{address-inside}
 
+-- none, whatever a test says
+pub cond_none : (b : Bool) → ◌≡◌ {A = ℕ} (cond b 0 0) 0
+cond_none true = refl
+cond_none false = refl
+
 -- an address of the store is taken as it is, and so is none
 pub within-stays : (sectors a : ℕ) → a < sectors → address_within sectors a ≡ a
 within-stays sectors a lt z = cond (lt-ltb a sectors lt z) a 0
 
 pub within-none : (sectors a : ℕ) → a ≡ 0 → address_within sectors a ≡ 0
-within-none sectors a none = ap (address_within sectors) none ∙ either (ltb 0 sectors)
-  where
-    either : (b : Bool) → ◌≡◌ {A = ℕ} (cond b 0 0) 0
-    either true = refl
-    either false = refl
+within-none sectors a none = ap (address_within sectors) none ∙ cond_none (ltb 0 sectors)
 
 pub within-below : (sectors a : ℕ) → address_within sectors a ≢ 0 → address_within sectors a < sectors
 within-below sectors a some = ⊎_elim
@@ -107,7 +107,7 @@ pub touched-none : (offset count : ℕ) → count ≡ 0 → touched offset count
 unfolding touched
 touched-none offset count none z = cond (eq-eqb count 0 none z) [] (range_with_len (offset / 512) (sectors_of (offset + count) - offset / 512))
 
-all-range : (p : ℕ → Bool) (a m : ℕ) → ((k : ℕ) → a ≤ k → k < a + m → p k ≡ true) → list_all p (range_with_len a m) ≡ true
+pub all-range : (p : ℕ → Bool) (a m : ℕ) → ((k : ℕ) → a ≤ k → k < a + m → p k ≡ true) → list_all p (range_with_len a m) ≡ true
 all-range p a zero h = refl
 all-range p a (suc m) h = (λ z. h a (omega arith) (omega arith) z && list_all p (range_with_len (a + 1) m)) ∙ all-range p (a + 1) m (λ k low high. h k (omega arith) (omega arith))
 
@@ -132,8 +132,3 @@ module _ (image : Image) (n : Inode) (offset count : ℕ) where
       (λ (some : count ≢ 0). ap (list_all (λ j. not (sector_in image n j == 0))) (touched-some offset count some)
       ∙ all-range (λ j. not (sector_in image n j == 0)) (offset / 512) _ (λ k low high z. not (ne_eqb (sector_in image n k) 0 (all k low (omega arith)) z)))
       (cases_eq count 0)
-
--- an image that is told has as many sectors as its store
-pub told-size : {S : Type 0} {tells : Type 0} {image : S → Image} {moment : S → ℕ} {left_since : S → ℕ → Image → Type 0} (sectors : S → ℕ) → IsClocked tells image moment left_since
-    → ((s : S) (t : ℕ) (i : Image) → left_since s t i → HasSectors (sectors s) i) → (s : S) → tells → length (image s) ≡ sectors s
-told-size {S} {tells} {image} {moment} sectors clocked shape s told = (shape s (moment s) (image s) (clocked.now s (moment s) told (omega arith))).size

@@ -7,3 +7,5 @@ pub mod View
 pub mod Plan
 pub mod Stored
 pub mod Plans
+pub mod Found
+pub mod Places

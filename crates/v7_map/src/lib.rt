@@ -1,7 +1,12 @@
 //! What an image of a volume stands for: its files, whether it can be mended, and what plans make of it.
 #![tactic(auto)]
 
+mod blocks;
 mod body;
+mod content;
+mod found;
+mod get;
+mod handle;
 mod inode;
 mod laws;
 mod places;
@@ -10,19 +15,22 @@ mod sector;
 mod super_block;
 mod write;
 
+pub use blocks::read_places;
 pub use body::{clip, sectors_of, splice};
+pub use content::{BodySector, body_sector};
+pub use found::Found;
+pub use get::{empty_sector, get_sector, sector_or_hole};
+pub use handle::find;
 pub use inode::{attributes_of, is_current, kind_of, with_limits};
 pub use laws::{
     getattr_is_answered, read_is_answered, undamaged_is_weak, weak_is_undamaged, write_is_answered,
     write_is_planned, write_is_put,
 };
-pub use places::{inode_offset_of, inode_sector_of};
+pub use places::{inode_in, inode_offset_of, inode_sector_of};
 pub use read::read_refusal_of;
 pub use sector::sector_of;
 pub use super_block::{has_inode, has_sizes, inodes_of};
 pub use write::write_refusal_of;
 
-#[cfg(test)]
-mod memory;
 #[cfg(test)]
 mod tests;

@@ -2,8 +2,7 @@
 
 ghost use Rattle.std.specs.Prelude.{◌≡◌, ◌≢◌, ◌+◌, ◌-◌, ◌*◌, ◌<◌, ◌≤◌, length, IfOk};
 ghost use Rattle.stable.specs.Counts.{HasCause};
-ghost use Rattle.stable.specs.Moments.{LeavesOnly};
-ghost use Rattle.stable.specs.Store.{Same, StaysOpenable};
+ghost use Rattle.stable.specs.Looked.{Looked};
 ghost use Rattle.v7_layout.specs.Numbers.{field};
 ghost use Rattle.v7_map.specs.Stored.{address_within, sector_in};
 
@@ -33,8 +32,8 @@ fn place_in_block(index: u32) -> usize
     4 * (index - DIRECT) as usize
 }
 
-// The address of four bytes at a place of a block.
-fn address_at(block: &[u8], at: usize) -> u32
+/// The address of four bytes at a place of a block.
+pub fn address_at(block: &[u8], at: usize) -> u32
     requires { at + 4 ≤ length block.now }
     ensures { result ≡ field block.now at 4 }
 {
@@ -43,17 +42,12 @@ fn address_at(block: &[u8], at: usize) -> u32
 
 /// The sector of the store where sector `index` of the inode's body stands, 0 for none: it is missing
 /// and reads as zeros, or no body has so many sectors. An address at or past the store's sectors is
-/// taken as none, that of the single indirect block too. Reads at most one sector. After Failed the
-/// store is as it was.
+/// taken as none, that of the single indirect block too. Reads at most one sector.
 pub fn sector_of<S: Stable>(store: &mut S, inode: &Inode, index: u32) -> Result<u32, Failed>
     ensures found { S.tells → IfOk result (λ sector. sector ≡ sector_in (S.image store.old) inode.now index) }
     ensures within { IfOk result (λ sector. sector ≢ 0 → sector < S.sector_count store.old) }
-    ensures image { S.image store.new ≡ S.image store.old }
-    ensures crash { LeavesOnly S.moment S.left_since store.old store.new (Same (S.image store.old)) }
-    ensures opens { StaysOpenable S.opens_since S.moment store.old store.new }
     ensures cause { HasCause (S.faults store.old) (S.faults store.new) result }
-    ensures sectors { S.sector_count store.new ≡ S.sector_count store.old }
-    ensures snapshot { S.snapshot_of store.new ≡ S.snapshot_of store.old }
+    ensures looked { Looked S.Stable store.old store.new }
 {
     let sectors = store.sectors();
     if index < DIRECT {

@@ -1,9 +1,6 @@
 pub mod Applying
 pub mod Building
 pub mod Counting
-pub mod Finding
 pub mod HasVolume
-pub mod Holes
 pub mod Preparing
 pub mod Reading
-pub mod Whole

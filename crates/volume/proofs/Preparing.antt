@@ -25,8 +25,9 @@ use Rattle.v7_map.proofs.SectorOf.{sector_in-address}
 use Rattle.v7_map.proofs.Ranges.{inode_sector-inside}
 use Rattle.v7_map.proofs.Splices.{PutsInode-bytes}
 use Rattle.v7_map.proofs.WriteAnswers.{write_puts-IsPlanOf, write_puts-frames, write-answer}
-use Rattle.volume.specs.declared.found.Found.{Found}
-use Rattle.volume.specs.Found.{IsFile, IsWritePlan, StandsPastSuperBlock}
+use Rattle.v7_map.specs.declared.found.Found.{Found}
+use Rattle.v7_map.specs.Found.{IsFile}
+use Rattle.volume.specs.Writes.{IsWritePlan, StandsPastSuperBlock}
 use Rattle.volume.specs.Prepares.{IsReady, IsRefusal}
 
 -- a refused WRITE changes nothing
@@ -95,12 +96,12 @@ module _ (image : Image) (strong : IsStrong (frame image)) (file : FileId) (offs
         → IsRefusal image (Write file offset bytes) cred now stat.Fbig
     refused_missing accepted missing = refused stat.Fbig (sym (answer-is (Some stat.Fbig) (refusal-is None false accepted missing)))
 
-    pub ready : IsImage image → write_refusal_by found.read_only file.ino found.inode cred offset (length bytes) ≡ None → has_touched image found.inode offset (length bytes) ≡ true
+    pub ready : IsImage image → write_refusal_by found.read_only file.ino found.inode cred offset (length bytes) ≡ None
         → (puts : List (ℕ × List ℕ)) (attr : Attr) → IsWritePlan image file found offset bytes now puts → attr ≡ stored_attr file.ino (written_inode found.inode now)
         → IsReady image (Write file offset bytes) cred now puts attr
-    ready whole accepted there puts attr plan answer =
+    ready whole accepted puts attr plan answer =
         let r = plan.replaces in
-        let none : write_refusal_in image file.ino cred offset (length bytes) ≡ None = refusal-is None true accepted there in
+        let none : write_refusal_in image file.ino cred offset (length bytes) ≡ None = refusal-is None true accepted plan.held in
         let sector_long : length (sector_at image (inode_sector file.ino)) ≡ 512 = whole (inode_sector file.ino) [] (inode_sector-inside image strong.weak file.ino inside_is).2 in
         let old = PutsInode-bytes image file.ino r.bytes (written_inode (inode_at image file.ino) now) inside_is sector_long r.long (r.reads ∙ ap (λ (m : Inode). written_inode m now) is.inode) in
         let same = r.is ∙ ap (λ s. take (inode_offset file.ino) s ++ r.bytes ++ drop (inode_offset file.ino + length r.bytes) s) is.sector in

@@ -20,8 +20,8 @@ use Rattle.v7_map.specs.View.{view}
 use Rattle.v7_map.specs.Weak.{IsStrong}
 use Rattle.v7_map.proofs.Answers.{getattr-answer, read-answer}
 use Rattle.v7_map.proofs.Contents.{take-more, content-part, length-content}
-use Rattle.volume.specs.declared.found.Found.{Found}
-use Rattle.volume.specs.Found.{IsFile}
+use Rattle.v7_map.specs.declared.found.Found.{Found}
+use Rattle.v7_map.specs.Found.{IsFile}
 use Rattle.volume.specs.Prepares.{IsRefusal}
 
 -- ---- they change nothing

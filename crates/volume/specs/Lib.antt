@@ -1,5 +1,5 @@
 pub mod Applied
-pub mod Found
 pub mod Mounted
 pub mod Opens
 pub mod Prepares
+pub mod Writes

@@ -1,9 +1,7 @@
 -- What the opening of a volume finds (docs/FORMATS.md, super-block).
-use Rattle.std.specs.Prelude.{◌≡◌, ◌≤◌, ℕ, true, false, List, Result, Ok, Err}
+use Rattle.std.specs.Prelude.{◌≡◌, ℕ, true, false, List, Result, Ok, Err}
 use Rattle.files_model.specs.declared.attributes.FileId.{FileId}
-use Rattle.stable.specs.Moments.{LeavesOnly}
-use Rattle.stable.specs.Store.{Image, Same, StaysOpenable}
-use Rattle.stable.specs.declared.snapshot.Snapshot.{Snapshot}
+use Rattle.stable.specs.Store.{Image}
 use Rattle.v7_layout.specs.Numbers.{part}
 use Rattle.v7_map.specs.Damage.{Sizes, passes}
 use Rattle.v7_map.specs.Frame.{frame}
@@ -35,12 +33,3 @@ HasNoVolume image fault.Failed = Unit {0}
 abbrev pub Opens : Image → Result Title OpenFault → Type 0
 Opens image (Ok title) = IsVolume image title.name title.root
 Opens image (Err why) = HasNoVolume image why
-
--- A store was only looked at.
-pub record Looked {S : Type 0} (image : S → Image) (moment : S → ℕ) (left_since : S → ℕ → Image → Type 0) (opens_since : S → ℕ → Type 0) (faults sector_count : S → ℕ) (snapshot_of : S → Snapshot) (old new : S) : Type 0 where
-  pub image_is : image new ≡ image old
-  pub crash : LeavesOnly moment left_since old new (Same (image old))
-  pub opens : StaysOpenable opens_since moment old new
-  pub later : faults old ≤ faults new
-  pub sectors : sector_count new ≡ sector_count old
-  pub snapshot : snapshot_of new ≡ snapshot_of old

@@ -1,5 +1,5 @@
 -- A WRITE made ready: its plan and its answer, or why there is none.
-use Rattle.std.specs.Prelude.{◌≡◌, ℕ, ◌≤◌, List, [], ◌∷◌, length}
+use Rattle.std.specs.Prelude.{◌≡◌, ℕ, ◌≤◌, List, [], ◌∷◌}
 use Rattle.files_model.specs.declared.attributes.Attr.{Attr}
 use Rattle.files_model.specs.declared.call.Call.{Call}
 use Rattle.files_model.specs.declared.credential.Cred.{Cred}
@@ -10,8 +10,9 @@ use Rattle.stable.specs.Counts.{Rose}
 use Rattle.stable.specs.Store.{Image}
 use Rattle.v7_map.specs.Frame.{frame}
 use Rattle.v7_map.specs.View.{view}
-use Rattle.stable.specs.Puts.{EachPrefix, AllStand, AllPastSuperBlock}
+use Rattle.stable.specs.Puts.{EachPrefix}
 use Rattle.v7_map.specs.Plans.{IsPlanOf}
+use Rattle.volume.specs.Writes.{CanRun}
 use Rattle.volume.specs.declared.prepared.Prepared.{Prepared}
 use Rattle.volume.specs.declared.prepared.Prepared.TheVariants as prepared
 
@@ -33,15 +34,9 @@ Prepares image call cred now (prepared.Refused status) = IsRefusal image call cr
 Prepares image call cred now prepared.Failed = Unit {0}
 Prepares image call cred now prepared.NoMemory = Unit {0}
 
--- A plan for a store of so many sectors: at most 17 sectors of data and one of inodes, none of them the super-block.
-pub record CanRun (sectors : ℕ) (puts : List (ℕ × List ℕ)) : Type 0 where
-  pub stand : AllStand sectors puts
-  pub past : AllPastSuperBlock puts
-  pub few : length puts ≤ 18
-
--- a plan can be put
+-- a plan can be put: at most 17 sectors of data and one of inodes
 abbrev pub Stands : ℕ → Prepared → Type 0
-Stands sectors (prepared.Planned plan attr) = CanRun sectors plan
+Stands sectors (prepared.Planned plan attr) = CanRun sectors 18 plan
 Stands sectors (prepared.Refused status) = Unit {0}
 Stands sectors prepared.Failed = Unit {0}
 Stands sectors prepared.NoMemory = Unit {0}

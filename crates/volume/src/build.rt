@@ -1,19 +1,15 @@
 // The plan of a WRITE: the data sectors in rising order, then the inode.
-ghost use Rattle.std.specs.Prelude.{◌≡◌, ◌≢◌, ◌<◌, ◌≤◌, ◌+◌, true, false, [], ◌∷◌, ◌++◌, length, OnOk, IsErrOf};
+ghost use Rattle.std.specs.Prelude.{◌≡◌, ◌<◌, ◌≤◌, ◌+◌, false, [], length, OnOk, IsErrOf};
 ghost use Rattle.stable.specs.Counts.{Rose};
-ghost use Rattle.stable.specs.Moments.{LeavesOnly};
-ghost use Rattle.stable.specs.Store.{Same, StaysOpenable};
-ghost use Rattle.stable.specs.Puts.{AllStand, AllPastSuperBlock};
+ghost use Rattle.stable.specs.Looked.{Looked};
 ghost use Rattle.v7_map.specs.Plan.{written_inode};
-ghost use Rattle.v7_map.specs.Stored.{sector_in, has_touched, write_puts};
-ghost use Rattle.volume.specs.Found.{write_put, StandsPastSuperBlock, ReplacesInode};
+ghost use Rattle.v7_map.specs.Stored.{sector_in, has_touched};
+ghost use Rattle.volume.specs.Writes.{AddsSector, HasGrown, AddsTouched, CanRun, StandsPastSuperBlock, ReplacesInode};
 
-use crate::body::body_sector;
 use crate::fault::BuildFault;
-use crate::found::Found;
 use stable::{Plan, Stable};
 use v7_layout::Inode;
-use v7_map::{inode_offset_of, sectors_of, splice};
+use v7_map::{Found, body_sector, inode_offset_of, sectors_of, splice};
 
 /// The first sector past the super-block. A file has none before it, whatever a damaged volume says.
 const FIRST: u32 = 2;
@@ -28,19 +24,11 @@ fn add_sector<S: Stable>(
     index: u32,
 ) -> Result<(), BuildFault>
     requires room { length plan.old < 420 }
-    ensures added { S.tells → OnOk result (plan.new ≡ plan.old ++ write_put (S.image store.old) inode.now offset bytes.now index ∷ []) }
-    ensures longer { OnOk result (length plan.new ≡ length plan.old + 1) }
-    ensures stand { AllStand (S.sector_count store.old) plan.old → OnOk result (AllStand (S.sector_count store.old) plan.new) }
-    ensures past { AllPastSuperBlock plan.old → OnOk result (AllPastSuperBlock plan.new) }
-    ensures held { S.tells → OnOk result (2 ≤ sector_in (S.image store.old) inode.now index) }
+    ensures added { S.tells → OnOk result (AddsSector (S.image store.old) inode.now offset bytes.now index plan.old plan.new) }
+    ensures grown { OnOk result (HasGrown (S.sector_count store.old) plan.old plan.new) }
     ensures missing { S.tells → IsErrOf result BuildFault.Missing → sector_in (S.image store.old) inode.now index < 2 }
-    ensures later { S.faults store.old ≤ S.faults store.new }
     ensures cause { IsErrOf result BuildFault.Failed → Rose (S.faults store.old) (S.faults store.new) }
-    ensures image { S.image store.new ≡ S.image store.old }
-    ensures crash { LeavesOnly S.moment S.left_since store.old store.new (Same (S.image store.old)) }
-    ensures opens { StaysOpenable S.opens_since S.moment store.old store.new }
-    ensures sectors { S.sector_count store.new ≡ S.sector_count store.old }
-    ensures snapshot { S.snapshot_of store.new ≡ S.snapshot_of store.old }
+    ensures looked { Looked S.Stable store.old store.new }
 {
     let mut found = body_sector(store, inode, index)?;
     if found.address < FIRST {
@@ -79,19 +67,11 @@ pub fn add_touched<S: Stable>(
     requires inside { offset + length bytes.now ≤ inode.now.size }
     requires short { length bytes.now ≤ 8192 }
     requires empty { plan.old ≡ [] }
-    ensures added { S.tells → OnOk result (plan.new ≡ write_puts (S.image store.old) inode.now offset bytes.now) }
-    ensures held { S.tells → OnOk result (has_touched (S.image store.old) inode.now offset (length bytes.now) ≡ true) }
-    ensures few { OnOk result (length plan.new ≤ 17) }
-    ensures stand { OnOk result (AllStand (S.sector_count store.old) plan.new) }
-    ensures past { OnOk result (AllPastSuperBlock plan.new) }
+    ensures added { S.tells → OnOk result (AddsTouched (S.image store.old) inode.now offset bytes.now plan.new) }
+    ensures runs { OnOk result (CanRun (S.sector_count store.old) 17 plan.new) }
     ensures missing { S.tells → StandsPastSuperBlock (S.image store.old) inode.now → IsErrOf result BuildFault.Missing → has_touched (S.image store.old) inode.now offset (length bytes.now) ≡ false }
-    ensures later { S.faults store.old ≤ S.faults store.new }
     ensures cause { IsErrOf result BuildFault.Failed → Rose (S.faults store.old) (S.faults store.new) }
-    ensures image { S.image store.new ≡ S.image store.old }
-    ensures crash { LeavesOnly S.moment S.left_since store.old store.new (Same (S.image store.old)) }
-    ensures opens { StaysOpenable S.opens_since S.moment store.old store.new }
-    ensures sectors { S.sector_count store.new ≡ S.sector_count store.old }
-    ensures snapshot { S.snapshot_of store.new ≡ S.snapshot_of store.old }
+    ensures looked { Looked S.Stable store.old store.new }
 {
     if bytes.is_empty() {
         return Ok(());

@@ -21,6 +21,15 @@ pub enum ReadFault {
     NoMemory,
 }
 
+/// Why there is no plan. Nothing was changed.
+#[derive(Clone, Copy, PartialEq, Eq)]
+pub enum BuildFault {
+    /// A sector that is touched is missing.
+    Missing,
+    /// The device failed.
+    Failed,
+}
+
 impl From<Failed> for ReadFault {
     ghost use Rattle.std.specs.Prelude.{◌≡◌};
     ghost use Rattle.volume.specs.declared.fault.ReadFault.TheVariants as fault;
@@ -41,15 +50,6 @@ impl From<AllocError> for ReadFault {
     fn from(_: AllocError) -> Self {
         ReadFault::NoMemory
     }
-}
-
-/// Why there is no plan. Nothing was changed.
-#[derive(Clone, Copy, PartialEq, Eq)]
-pub enum BuildFault {
-    /// A sector that is touched is missing.
-    Missing,
-    /// The device failed.
-    Failed,
 }
 
 impl From<Failed> for BuildFault {

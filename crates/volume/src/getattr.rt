@@ -1,21 +1,17 @@
 // GETATTR (RFC 1094 2.2.2).
-ghost use Rattle.std.specs.Prelude.{◌≡◌};
 ghost use Rattle.files_model.specs.declared.call.Call.TheVariants.{Getattr};
-ghost use Rattle.stable.specs.Store.{StaysOpenable};
+ghost use Rattle.stable.specs.Looked.{Looked};
 ghost use Rattle.volume.specs.Applied.{IsApplied};
 
-use crate::find::find;
 use crate::outcome::Outcome;
 use files_model::{Cred, FileId, Reply, Stat};
 use stable::Stable;
-use v7_map::attributes_of;
+use v7_map::{attributes_of, find};
 
 /// Tells the attributes of a file. Nothing is changed.
 pub fn getattr<S: Stable>(store: &mut S, file: FileId, cred: &Cred, now: u32) -> Outcome
     ensures applied { IsApplied S.tells S.image S.faults S.moment S.left_since store.old store.new (Getattr file) cred.now now result }
-    ensures opens { StaysOpenable S.opens_since S.moment store.old store.new }
-    ensures sectors { S.sector_count store.new ≡ S.sector_count store.old }
-    ensures snapshot { S.snapshot_of store.new ≡ S.snapshot_of store.old }
+    ensures looked { Looked S.Stable store.old store.new }
 {
     match find(store, file) {
         Ok(Some(found)) => Outcome::Reply(Reply::Attr(attributes_of(file.ino, &found.inode))),

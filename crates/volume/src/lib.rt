@@ -1,11 +1,8 @@
 //! The calls on a volume, over any store of its sectors.
 #![tactic(auto)]
 
-mod body;
 mod build;
 mod fault;
-mod find;
-mod found;
 mod getattr;
 mod mounted;
 mod opening;
@@ -13,14 +10,11 @@ mod outcome;
 mod prepare;
 mod prepared;
 mod read;
-mod sector;
 mod write;
 
 pub use fault::OpenFault;
 pub use mounted::Volume;
 pub use outcome::Outcome;
 
-#[cfg(test)]
-mod memory;
 #[cfg(test)]
 mod tests;

@@ -18,15 +18,15 @@ pub struct Volume<S> {
 }
 
 impl<S: Tended> Volume<S> {
-    ghost use Rattle.std.specs.Prelude.{◌≡◌, ◌≤◌, true, IfOk, IfErr};
+    ghost use Rattle.std.specs.Prelude.{◌≡◌, true, IfOk, IfErr};
     ghost use Rattle.files_model.specs.Step.{has_row};
     ghost use Rattle.stable.specs.Counts.{Rose};
-    ghost use Rattle.stable.specs.Moments.{LeavesOnly};
+    ghost use Rattle.stable.specs.Looked.{Looked, KeepsImage};
     ghost use Rattle.stable.specs.States.{SomePuts, IsPolled, IsFlushed, IsCommanded};
-    ghost use Rattle.stable.specs.Store.{Same, StaysOpenable};
+    ghost use Rattle.stable.specs.Store.{StaysOpenable};
     ghost use Rattle.volume.specs.Applied.{IsApplied, most_puts};
-    ghost use Rattle.volume.specs.Mounted.{store_of, name_of, root_of};
-    ghost use Rattle.volume.specs.Opens.{IsVolume, HasNoVolume, Looked};
+    ghost use Rattle.volume.specs.Mounted.{store_of, name_of, root_of, KeepsTitle};
+    ghost use Rattle.volume.specs.Opens.{IsVolume, HasNoVolume};
 
     /// Opens the volume on a store. Nothing is changed. Sizes comes exactly where the super-block is missing or its sizes can't be; Failed
     /// only where a device failed in the call. After both the store comes back.
@@ -34,8 +34,8 @@ impl<S: Tended> Volume<S> {
         ensures found { S.tells → IfOk result (λ volume. IsVolume (S.image store) (name_of volume) (root_of volume)) }
         ensures missing { S.tells → IfErr result (λ e. HasNoVolume (S.image store) e.0) }
         ensures failed { IfErr result (λ e. e.0 ≡ OpenFault.Failed → Rose (S.faults store) (S.faults e.1)) }
-        ensures looked { IfOk result (λ volume. Looked S.image S.moment S.left_since S.opens_since S.faults S.sector_count S.snapshot_of store (store_of volume)) }
-        ensures came_back { IfErr result (λ e. Looked S.image S.moment S.left_since S.opens_since S.faults S.sector_count S.snapshot_of store e.1) }
+        ensures looked { IfOk result (λ volume. Looked S.Stable store (store_of volume)) }
+        ensures came_back { IfErr result (λ e. Looked S.Stable store e.1) }
     {
         let mut store = store;
         match look(&mut store) {
@@ -56,8 +56,7 @@ impl<S: Tended> Volume<S> {
         ensures applied { IsApplied S.tells S.image S.faults S.moment S.left_since (store_of self.old) (store_of self.new) call.now cred.now now result }
         ensures opens { StaysOpenable S.opens_since S.moment (store_of self.old) (store_of self.new) }
         ensures sectors { S.sector_count (store_of self.new) ≡ S.sector_count (store_of self.old) }
-        ensures name { name_of self.new ≡ name_of self.old }
-        ensures root { root_of self.new ≡ root_of self.old }
+        ensures titled { KeepsTitle self.old self.new }
         ensures snapshot { SomePuts (most_puts call.now) (S.faults (store_of self.old)) (S.faults (store_of self.new)) (S.snapshot_of (store_of self.old)) (S.snapshot_of (store_of self.new)) }
     {
         match call {
@@ -115,13 +114,8 @@ impl<S: Tended> Volume<S> {
 
     /// Polls the store's battery.
     pub fn poll(&mut self) -> Battery
-        ensures image { S.tells → S.image (store_of self.new) ≡ S.image (store_of self.old) }
-        ensures crash { LeavesOnly S.moment S.left_since (store_of self.old) (store_of self.new) (Same (S.image (store_of self.old))) }
-        ensures opens { StaysOpenable S.opens_since S.moment (store_of self.old) (store_of self.new) }
-        ensures faults { S.faults (store_of self.old) ≤ S.faults (store_of self.new) }
-        ensures sectors { S.sector_count (store_of self.new) ≡ S.sector_count (store_of self.old) }
-        ensures name { name_of self.new ≡ name_of self.old }
-        ensures root { root_of self.new ≡ root_of self.old }
+        ensures keeps { KeepsImage S.Stable (store_of self.old) (store_of self.new) }
+        ensures titled { KeepsTitle self.old self.new }
         ensures snapshot { IsPolled result (S.snapshot_of (store_of self.old)) (S.snapshot_of (store_of self.new)) }
     {
         self.store.poll()
@@ -129,13 +123,8 @@ impl<S: Tended> Volume<S> {
 
     /// Tries to flush the store's oldest dirty sector.
     pub fn flush_one(&mut self) -> FlushAnswer
-        ensures image { S.tells → S.image (store_of self.new) ≡ S.image (store_of self.old) }
-        ensures crash { LeavesOnly S.moment S.left_since (store_of self.old) (store_of self.new) (Same (S.image (store_of self.old))) }
-        ensures opens { StaysOpenable S.opens_since S.moment (store_of self.old) (store_of self.new) }
-        ensures faults { S.faults (store_of self.old) ≤ S.faults (store_of self.new) }
-        ensures sectors { S.sector_count (store_of self.new) ≡ S.sector_count (store_of self.old) }
-        ensures name { name_of self.new ≡ name_of self.old }
-        ensures root { root_of self.new ≡ root_of self.old }
+        ensures keeps { KeepsImage S.Stable (store_of self.old) (store_of self.new) }
+        ensures titled { KeepsTitle self.old self.new }
         ensures snapshot { IsFlushed result (S.faults (store_of self.old)) (S.faults (store_of self.new)) (S.snapshot_of (store_of self.old)) (S.snapshot_of (store_of self.new)) }
     {
         self.store.flush_one()
@@ -143,13 +132,8 @@ impl<S: Tended> Volume<S> {
 
     /// Gives the store a command.
     pub fn command(&mut self, command: Command) -> Answer
-        ensures image { S.tells → S.image (store_of self.new) ≡ S.image (store_of self.old) }
-        ensures crash { LeavesOnly S.moment S.left_since (store_of self.old) (store_of self.new) (Same (S.image (store_of self.old))) }
-        ensures opens { StaysOpenable S.opens_since S.moment (store_of self.old) (store_of self.new) }
-        ensures faults { S.faults (store_of self.old) ≤ S.faults (store_of self.new) }
-        ensures sectors { S.sector_count (store_of self.new) ≡ S.sector_count (store_of self.old) }
-        ensures name { name_of self.new ≡ name_of self.old }
-        ensures root { root_of self.new ≡ root_of self.old }
+        ensures keeps { KeepsImage S.Stable (store_of self.old) (store_of self.new) }
+        ensures titled { KeepsTitle self.old self.new }
         ensures snapshot { IsCommanded command result (S.faults (store_of self.old)) (S.faults (store_of self.new)) (S.snapshot_of (store_of self.old)) (S.snapshot_of (store_of self.new)) }
     {
         self.store.command(command)
@@ -164,37 +148,21 @@ impl<S: Tended> Volume<S> {
 }
 
 impl<S: SteeredStore> Volume<S> {
-    ghost use Rattle.std.specs.Prelude.{◌≡◌};
-    ghost use Rattle.stable.specs.Moments.{LeavesOnly};
-    ghost use Rattle.stable.specs.Store.{Same, StaysOpenable};
-    ghost use Rattle.volume.specs.Mounted.{store_of, name_of, root_of};
+    ghost use Rattle.stable.specs.Looked.{Untouched};
+    ghost use Rattle.volume.specs.Mounted.{store_of, KeepsTitle};
 
     /// Sets what the battery says at its next readings.
     pub fn set_battery(&mut self, battery: Battery)
-        ensures image { S.image (store_of self.new) ≡ S.image (store_of self.old) }
-        ensures crash { LeavesOnly S.moment S.left_since (store_of self.old) (store_of self.new) (Same (S.image (store_of self.old))) }
-        ensures opens { StaysOpenable S.opens_since S.moment (store_of self.old) (store_of self.new) }
-        ensures moment { S.moment (store_of self.new) ≡ S.moment (store_of self.old) }
-        ensures faults { S.faults (store_of self.new) ≡ S.faults (store_of self.old) }
-        ensures sectors { S.sector_count (store_of self.new) ≡ S.sector_count (store_of self.old) }
-        ensures name { name_of self.new ≡ name_of self.old }
-        ensures root { root_of self.new ≡ root_of self.old }
-        ensures snapshot { S.snapshot_of (store_of self.new) ≡ S.snapshot_of (store_of self.old) }
+        ensures untouched { Untouched S.Stable (store_of self.old) (store_of self.new) }
+        ensures titled { KeepsTitle self.old self.new }
     {
         self.store.set_battery(battery);
     }
 
     /// Cuts the device call that comes after so many more: it leaves the newer state, or the older.
     pub fn stop_after(&mut self, calls: u64, newer: bool)
-        ensures image { S.image (store_of self.new) ≡ S.image (store_of self.old) }
-        ensures crash { LeavesOnly S.moment S.left_since (store_of self.old) (store_of self.new) (Same (S.image (store_of self.old))) }
-        ensures opens { StaysOpenable S.opens_since S.moment (store_of self.old) (store_of self.new) }
-        ensures moment { S.moment (store_of self.new) ≡ S.moment (store_of self.old) }
-        ensures faults { S.faults (store_of self.new) ≡ S.faults (store_of self.old) }
-        ensures sectors { S.sector_count (store_of self.new) ≡ S.sector_count (store_of self.old) }
-        ensures name { name_of self.new ≡ name_of self.old }
-        ensures root { root_of self.new ≡ root_of self.old }
-        ensures snapshot { S.snapshot_of (store_of self.new) ≡ S.snapshot_of (store_of self.old) }
+        ensures untouched { Untouched S.Stable (store_of self.old) (store_of self.new) }
+        ensures titled { KeepsTitle self.old self.new }
     {
         self.store.stop_after(calls, newer);
     }

@@ -1,17 +1,14 @@
 // What the opening of a volume looks at.
 ghost use Rattle.std.specs.Prelude.{◌≡◌, ◌<◌, ◌≤◌, IsErrOf};
 ghost use Rattle.stable.specs.Counts.{Rose};
-ghost use Rattle.stable.specs.Moments.{LeavesOnly};
-ghost use Rattle.stable.specs.Store.{Same, StaysOpenable};
+ghost use Rattle.stable.specs.Looked.{Looked};
 ghost use Rattle.volume.specs.Opens.{Opens};
 
 use crate::fault::OpenFault;
-use crate::find::inode_in;
-use crate::sector::get_sector;
 use files_model::FileId;
 use stable::Stable;
 use v7_layout::Super;
-use v7_map::{has_sizes, inode_sector_of};
+use v7_map::{get_sector, has_sizes, inode_in, inode_sector_of};
 
 /// The number of the root directory (filsys(5)).
 const ROOT: u32 = 2;
@@ -23,16 +20,11 @@ pub struct Title {
     pub root: FileId,
 }
 
-/// Looks whether there is a volume, and reads its name and its root. Nothing is changed.
+/// Looks whether there is a volume, and reads its name and its root.
 pub fn look<S: Stable>(store: &mut S) -> Result<Title, OpenFault>
     ensures found { S.tells → Opens (S.image store.old) result }
-    ensures later { S.faults store.old ≤ S.faults store.new }
     ensures failed { IsErrOf result OpenFault.Failed → Rose (S.faults store.old) (S.faults store.new) }
-    ensures image { S.image store.new ≡ S.image store.old }
-    ensures crash { LeavesOnly S.moment S.left_since store.old store.new (Same (S.image store.old)) }
-    ensures opens { StaysOpenable S.opens_since S.moment store.old store.new }
-    ensures sectors { S.sector_count store.new ≡ S.sector_count store.old }
-    ensures snapshot { S.snapshot_of store.new ≡ S.snapshot_of store.old }
+    ensures looked { Looked S.Stable store.old store.new }
 {
     let sectors = store.sectors();
     if sectors < 2 {

@@ -1,27 +1,23 @@
 // A WRITE is made ready: looked up, judged and planned. Nothing is changed.
-ghost use Rattle.std.specs.Prelude.{◌≡◌, ◌<◌, ◌≤◌, ◌+◌, true, false, [], length, IfOk, IsErrOf};
+ghost use Rattle.std.specs.Prelude.{◌≡◌, ◌<◌, ◌≤◌, ◌+◌, [], length, IfOk, IsErrOf};
 ghost use Rattle.files_model.specs.declared.call.Call.TheVariants.{Write};
 ghost use Rattle.stable.specs.Counts.{Rose};
-ghost use Rattle.stable.specs.Moments.{LeavesOnly};
-ghost use Rattle.stable.specs.Store.{Same, StaysOpenable};
-ghost use Rattle.stable.specs.Puts.{AllStand, AllPastSuperBlock};
+ghost use Rattle.stable.specs.Looked.{Looked};
 ghost use Rattle.v7_map.specs.Frame.{frame};
 ghost use Rattle.v7_map.specs.Image.{inode_sector};
 ghost use Rattle.v7_map.specs.Plan.{written_inode};
-ghost use Rattle.v7_map.specs.Stored.{has_touched, stored_attr};
+ghost use Rattle.v7_map.specs.Stored.{stored_attr};
 ghost use Rattle.v7_map.specs.Weak.{IsStrong};
-ghost use Rattle.volume.specs.Found.{IsWritePlan, StandsPastSuperBlock};
+ghost use Rattle.volume.specs.Writes.{PlansWrite, CanRun};
 ghost use Rattle.volume.specs.Prepares.{Prepares, Stands, HasReason};
 
 use crate::build::{add_touched, touched_inode};
 use crate::fault::BuildFault;
-use crate::find::find;
-use crate::found::Found;
 use crate::prepared::Prepared;
 use files_model::{Attr, Cred, FileId, Stat};
 use stable::{Plan, Stable};
 use std::alloc::Global;
-use v7_map::{attributes_of, inode_sector_of, write_refusal_of};
+use v7_map::{Found, attributes_of, find, inode_sector_of, write_refusal_of};
 
 // The attributes after a WRITE inside a file.
 fn written_attributes(found: &Found, ino: u32, now: u32) -> Attr
@@ -48,19 +44,10 @@ fn plan_write<S: Stable>(
     requires short { length bytes.now ≤ 8192 }
     requires place { inode_sector file.ino < S.sector_count store.old }
     requires empty { plan ≡ [] }
-    ensures planned { S.tells → IfOk result (λ plan. IsWritePlan (S.image store.old) file found.now offset bytes.now now plan) }
-    ensures held { S.tells → IfOk result (λ plan. has_touched (S.image store.old) found.now.inode offset (length bytes.now) ≡ true) }
-    ensures few { IfOk result (λ plan. length plan ≤ 18) }
-    ensures stand { IfOk result (λ plan. AllStand (S.sector_count store.old) plan) }
-    ensures past { IfOk result (λ plan. AllPastSuperBlock plan) }
-    ensures missing { S.tells → StandsPastSuperBlock (S.image store.old) found.now.inode → IsErrOf result BuildFault.Missing → has_touched (S.image store.old) found.now.inode offset (length bytes.now) ≡ false }
-    ensures later { S.faults store.old ≤ S.faults store.new }
+    ensures planned { S.tells → PlansWrite (S.image store.old) file found.now offset bytes.now now result }
+    ensures runs { IfOk result (λ plan. CanRun (S.sector_count store.old) 18 plan) }
     ensures cause { IsErrOf result BuildFault.Failed → Rose (S.faults store.old) (S.faults store.new) }
-    ensures image { S.image store.new ≡ S.image store.old }
-    ensures crash { LeavesOnly S.moment S.left_since store.old store.new (Same (S.image store.old)) }
-    ensures opens { StaysOpenable S.opens_since S.moment store.old store.new }
-    ensures sectors { S.sector_count store.new ≡ S.sector_count store.old }
-    ensures snapshot { S.snapshot_of store.new ≡ S.snapshot_of store.old }
+    ensures looked { Looked S.Stable store.old store.new }
 {
     match add_touched(store, &mut plan, &found.inode, offset, bytes) {
         Ok(()) => {}
@@ -87,11 +74,7 @@ pub fn prepare<S: Stable>(
     ensures prepared { S.tells → IsStrong (frame (S.image store.old)) → Prepares (S.image store.old) (Write file offset bytes.now) cred.now now result }
     ensures stands { Stands (S.sector_count store.old) result }
     ensures reason { HasReason result (S.faults store.old) (S.faults store.new) }
-    ensures image { S.image store.new ≡ S.image store.old }
-    ensures crash { LeavesOnly S.moment S.left_since store.old store.new (Same (S.image store.old)) }
-    ensures opens { StaysOpenable S.opens_since S.moment store.old store.new }
-    ensures sectors { S.sector_count store.new ≡ S.sector_count store.old }
-    ensures snapshot { S.snapshot_of store.new ≡ S.snapshot_of store.old }
+    ensures looked { Looked S.Stable store.old store.new }
 {
     let found = match find(store, file) {
         Ok(Some(found)) => found,

@@ -2,21 +2,18 @@
 ghost use Rattle.std.specs.Prelude.{◌≡◌, ◌<◌, ◌≤◌, ◌+◌, ◌*◌, ◌-◌, ◌++◌, min, max, take, drop, length, vec_len, IfOk, OnOk, IsErrOf};
 ghost use Rattle.files_model.specs.declared.call.Call.TheVariants.{Read};
 ghost use Rattle.stable.specs.Counts.{Rose};
-ghost use Rattle.stable.specs.Moments.{LeavesOnly};
-ghost use Rattle.stable.specs.Store.{Same, StaysOpenable};
+ghost use Rattle.stable.specs.Looked.{Looked};
 ghost use Rattle.v7_map.specs.Image.{IsImage};
 ghost use Rattle.v7_map.specs.Stored.{stored_sector, read_bytes};
 ghost use Rattle.volume.specs.Applied.{IsApplied};
 
-use crate::body::body_sector;
 use crate::fault::ReadFault;
-use crate::find::find;
 use crate::outcome::Outcome;
 use files_model::{Cred, Data, FileId, Reply, Stat};
 use stable::Stable;
 use std::alloc::Global;
 use v7_layout::Inode;
-use v7_map::{attributes_of, read_refusal_of, sectors_of};
+use v7_map::{attributes_of, body_sector, find, read_refusal_of, sectors_of};
 
 // Adds those bytes of sector `index` of a body that stand from one place of the body on and before another.
 fn add_part<S: Stable>(
@@ -32,13 +29,8 @@ fn add_part<S: Stable>(
     requires some { from ≤ end }
     ensures added { S.tells → OnOk result (bytes.new.items ≡ bytes.old.items ++ take (min end (512 * index + 512) - max from (512 * index)) (drop (max from (512 * index) - 512 * index) (stored_sector (S.image store.old) inode.now index))) }
     ensures longer { OnOk result (vec_len bytes.new ≡ vec_len bytes.old + (min end (512 * index + 512) - max from (512 * index))) }
-    ensures later { S.faults store.old ≤ S.faults store.new }
     ensures cause { IsErrOf result ReadFault.Failed → Rose (S.faults store.old) (S.faults store.new) }
-    ensures image { S.image store.new ≡ S.image store.old }
-    ensures crash { LeavesOnly S.moment S.left_since store.old store.new (Same (S.image store.old)) }
-    ensures opens { StaysOpenable S.opens_since S.moment store.old store.new }
-    ensures sectors { S.sector_count store.new ≡ S.sector_count store.old }
-    ensures snapshot { S.snapshot_of store.new ≡ S.snapshot_of store.old }
+    ensures looked { Looked S.Stable store.old store.new }
 {
     let start = u64::from(index) * 512;
     let found = body_sector(store, inode, index)?;
@@ -58,13 +50,8 @@ fn read_body<S: Stable>(
 ) -> Result<Data, ReadFault>
     ensures read { S.tells → IsImage (S.image store.old) → IfOk result (λ bytes. bytes ≡ read_bytes (S.image store.old) inode.now offset count) }
     ensures few { IfOk result (λ bytes. length bytes ≤ 8192) }
-    ensures later { S.faults store.old ≤ S.faults store.new }
     ensures cause { IsErrOf result ReadFault.Failed → Rose (S.faults store.old) (S.faults store.new) }
-    ensures image { S.image store.new ≡ S.image store.old }
-    ensures crash { LeavesOnly S.moment S.left_since store.old store.new (Same (S.image store.old)) }
-    ensures opens { StaysOpenable S.opens_since S.moment store.old store.new }
-    ensures sectors { S.sector_count store.new ≡ S.sector_count store.old }
-    ensures snapshot { S.snapshot_of store.new ≡ S.snapshot_of store.old }
+    ensures looked { Looked S.Stable store.old store.new }
 {
     let end = offset.saturating_add(count.min(8192)).min(inode.size);
     let mut bytes = Vec::with_capacity(alloc, 8192)?;
@@ -90,9 +77,7 @@ pub fn read<S: Stable>(
     now: u32,
 ) -> Outcome
     ensures applied { IsApplied S.tells S.image S.faults S.moment S.left_since store.old store.new (Read file offset count) cred.now now result }
-    ensures opens { StaysOpenable S.opens_since S.moment store.old store.new }
-    ensures sectors { S.sector_count store.new ≡ S.sector_count store.old }
-    ensures snapshot { S.snapshot_of store.new ≡ S.snapshot_of store.old }
+    ensures looked { Looked S.Stable store.old store.new }
 {
     let found = match find(store, file) {
         Ok(Some(found)) => found,

@@ -2,12 +2,12 @@
 
 ghost use Rattle.v7_layout.specs.Written.{AddressesFit};
 
-use crate::memory::{Memory, SECTORS};
 use crate::{Outcome, Volume};
 use files_model::{Attr, Call, Cred, Data, FileId, Gids, Kind, Reply, Stat};
-use stable::{Answer, Battery, Command, FlushAnswer, State};
+use stable::{Answer, Battery, Command, FlushAnswer, NoMemory, State};
 use std::alloc::Global;
 use std::test::Fail;
+use store_mem::Memory;
 use v7_layout::{Inode, Super};
 
 const FILE: FileId = FileId {
@@ -15,23 +15,30 @@ const FILE: FileId = FileId {
     generation: 1,
 };
 
-// A regular file of 1,024 bytes in sectors 5 and 6.
+// Whose the file is, how long it is, and when it was made.
+const OWNER: u16 = 100;
+
+const SIZE: u32 = 1024;
+
+const MADE: u32 = 1000;
+
+// A regular file in sectors 5 and 6.
 fn file() -> Inode
     ensures { AddressesFit result }
 {
     Inode {
         mode: 0o100_644,
         nlink: 1,
-        uid: 100,
-        gid: 100,
-        size: 1024,
+        uid: OWNER,
+        gid: OWNER,
+        size: SIZE,
         direct: [5, 6, 0, 0, 0, 0, 0, 0, 0, 0],
         single: 0,
         double: 0,
-        generation: 1,
-        atime: 1000,
-        mtime: 1000,
-        ctime: 1000,
+        generation: FILE.generation,
+        atime: MADE,
+        mtime: MADE,
+        ctime: MADE,
     }
 }
 
@@ -41,19 +48,19 @@ fn attributes(changed: u32) -> Attr {
         kind: Kind::Regular,
         mode: 0o644,
         nlink: 1,
-        uid: 100,
-        gid: 100,
-        size: 1024,
-        fileid: 3,
-        atime: 1000,
+        uid: OWNER,
+        gid: OWNER,
+        size: SIZE,
+        fileid: FILE.ino,
+        atime: MADE,
         mtime: changed,
         ctime: changed,
     }
 }
 
 // A volume `VOLA00` of 64 sectors, of which four are inodes and what stands before them, with the file and a root.
-fn store() -> Memory {
-    let mut sectors = [[0; 512]; SECTORS];
+fn store(alloc: Global) -> Result<Memory, NoMemory> {
+    let mut sectors = [[0; 512]; 64];
     let mut super_block = Super::read(&[0; 512]);
     super_block.s_isize = 4;
     super_block.s_fsize = 64;
@@ -67,19 +74,26 @@ fn store() -> Memory {
     sectors[2][112] = 1;
     sectors[5] = [b'a'; 512];
     sectors[6] = [b'a'; 512];
-    Memory::new(sectors)
+    Memory::new(alloc, &sectors)
 }
 
 fn opened(alloc: Global) -> Result<Volume<Memory>, Fail> {
-    Ok(Volume::open(alloc, store()).map_err(|_| "no volume")?)
+    let store = store(alloc).map_err(|_| "memory")?;
+    Ok(Volume::open(alloc, store).map_err(|_| "no volume")?)
 }
 
 fn owner() -> Cred {
     Cred {
-        uid: 100,
-        gid: 100,
+        uid: OWNER,
+        gid: OWNER,
         gids: Gids::copy(&[]),
     }
+}
+
+// Whether a sector of a store has these bytes from a place on.
+fn has(store: &Memory, sector: u32, at: usize, bytes: &[u8]) -> bool {
+    let held = store.sector(sector);
+    held.get(at..).is_some_and(|rest| rest.starts_with(bytes))
 }
 
 #[test]
@@ -102,11 +116,10 @@ fn a_write_across_two_sectors_is_stored_before_its_reply(rt: HostRuntime) -> Res
     let written = volume.apply(&write, &owner(), 2000);
     assert!(rt; matches!(&written, Outcome::Reply(Reply::Attr(attr)) if *attr == attributes(2000)));
     let store = volume.into_store();
-    assert!(rt; store.puts == 3 && store.order == [5, 6, 2, 0]);
-    let sectors = store.sectors;
-    assert!(rt; sectors[5][510..] == b"aX"[..] && sectors[6][..2] == b"Ya"[..]);
+    assert!(rt; store.puts == 3 && store.order.starts_with(&[5, 6, 2]));
+    assert!(rt; has(&store, 5, 510, b"aX") && has(&store, 6, 0, b"Ya"));
     // atime, mtime and ctime
-    assert!(rt; sectors[2][180..192] == b"\xe8\x03\0\0\xd0\x07\0\0\xd0\x07\0\0"[..]);
+    assert!(rt; has(&store, 2, 180, b"\xe8\x03\0\0\xd0\x07\0\0\xd0\x07\0\0"));
     Ok(())
 }
 

@@ -17,7 +17,7 @@ returns-in-Err-clause-served g c =
       posts = [];
       backs = [];
       loan = loan_none g.H.Host.posts_left g.H.Host.posts_back c.args.host.now c.give_up.new.host c.give_up.ensures.only.posts.left c.give_up.ensures.only.posts.back;
-      grows = grew_idle g.met.S.Stable.clocked c.args.store c.in-Err.store (λ told. looked.image_is) looked.later looked.crash;
+      grows = grew_idle g.met.S.Stable.clocked c.args.store c.in-Err.store (λ told. looked.image) looked.later looked.crash;
       workers = tt;
       shared = refl;
       ends = tt;
@@ -42,7 +42,7 @@ returns-in-Ok-clause-served g c =
       backs = s.backs;
       loan = s.loan;
       grows = grew_both g.met.S.Stable.clocked c.args.store (store_of c.in-Ok.volume) c.serve_open.result.1 [] s.holds
-          (grew_idle g.met.S.Stable.clocked c.args.store (store_of c.in-Ok.volume) (λ told. looked.image_is) looked.later looked.crash) s.grows;
+          (grew_idle g.met.S.Stable.clocked c.args.store (store_of c.in-Ok.volume) (λ told. looked.image) looked.later looked.crash) s.grows;
       workers = s.workers;
       shared = s.shared;
       ends = s.ends;

@@ -2,24 +2,25 @@ use Rattle.std.proofs.Common.{◌≡◌, ◌∙◌, ◌-◌, ◌*◌, sym, ap, a
 use Rattle.v7_layout.specs.Numbers.{field}
 use Rattle.v7_map.specs.Frame.{listed}
 use Rattle.v7_map.specs.Stored.{address_within}
-use Rattle.v7_map.proofs.SectorOf.{sector_in-direct, sector_in-single, sector_in-no_single, sector_in-past, listed-some, told-size}
+use Rattle.v7_map.proofs.SectorOf.{sector_in-direct, sector_in-single, sector_in-no_single, sector_in-past, listed-some}
+use Rattle.v7_map.proofs.Whole.{as_long}
 use Rattle.v7_map.proofs.sector.sector_of.Goals as goal
 
 pub returns-then-index-lt-DIRECT-clause-found : goal.returns-then-index-lt-DIRECT-clause-found
 returns-then-index-lt-DIRECT-clause-found g c tells =
-    let size = told-size g.S.Stable.sector_count g.met.S.Stable.clocked g.met.S.Stable.shape c.args.store.now tells in
+    let size = (as_long g.S.Stable.sector_count g.met.S.Stable.clocked g.met.S.Stable.shape c.args.store.now tells).size in
     c.within.ensures ∙ ap (λ (n : ℕ). address_within n (get_or c.args.inode.now.direct c.args.index 0)) (c.sectors-sectors.ensures ∙ sym size)
     ∙ sym (sector_in-direct (g.S.Stable.image c.args.store.now) c.args.inode.now c.args.index (omega arith))
 
 pub returns-then-block-eq0-clause-found : goal.returns-then-block-eq0-clause-found
 returns-then-block-eq0-clause-found g c tells =
-    let size = told-size g.S.Stable.sector_count g.met.S.Stable.clocked g.met.S.Stable.shape c.args.store.now tells in
+    let size = (as_long g.S.Stable.sector_count g.met.S.Stable.clocked g.met.S.Stable.shape c.args.store.now tells).size in
     let block = c.within-block.ensures ∙ ap (λ (n : ℕ). address_within n c.args.inode.now.single) (c.sectors-sectors.ensures ∙ sym size) in
     sym (sector_in-no_single (g.S.Stable.image c.args.store.now) c.args.inode.now c.args.index (omega arith) (sym block ∙ c.if-block-eq0.true))
 
 pub returns-clause-found : goal.returns-clause-found
 returns-clause-found g c tells =
-    let size = told-size g.S.Stable.sector_count g.met.S.Stable.clocked g.met.S.Stable.shape c.args.store.now tells in
+    let size = (as_long g.S.Stable.sector_count g.met.S.Stable.clocked g.met.S.Stable.shape c.args.store.now tells).size in
     let count : c.sectors-sectors.result ≡ length (g.S.Stable.image c.args.store.now) = c.sectors-sectors.ensures ∙ sym size in
     let block : c.within-block.result ≡ address_within (length (g.S.Stable.image c.args.store.now)) c.args.inode.now.single = c.within-block.ensures ∙ ap (λ (n : ℕ). address_within n c.args.inode.now.single) count in
     let listed-is : c.address_at-address.result ≡ listed (g.S.Stable.image c.args.store.now) c.within-block.result (c.args.index - 10) =

@@ -1,10 +1,9 @@
 use Rattle.std.proofs.Common.{◌≡◌, ◌≢◌, ◌≤◌, ◌<◌, ◌-◌, ℕ, map, length}
 use Rattle.std.specs.List.{range_with_len}
-use Rattle.stable.specs.Moments.{LeavesOnly}
+use Rattle.stable.specs.Looked.{Looked}
 use Rattle.stable.specs.Puts.{AllStand, AllPastSuperBlock}
-use Rattle.stable.specs.Store.{Same, StaysOpenable}
 use Rattle.v7_map.specs.Stored.{sector_in}
-use Rattle.volume.specs.Found.{write_put}
+use Rattle.volume.specs.Writes.{write_put}
 use Rattle.volume.proofs.build.add_touched.Given as goal
 
 abbrev pub invariant-loop-index : goal.invariant-loop-index
@@ -16,10 +15,5 @@ invariant-loop-index g l =
       few : length l.plan ≡ l.index - l.first;
       stand : AllStand (S.sector_count l.fn.store) l.plan;
       past : AllPastSuperBlock l.plan;
-      image : S.image l.store ≡ S.image l.fn.store;
-      crash : LeavesOnly S.moment S.left_since l.fn.store l.store (Same (S.image l.fn.store));
-      opens : StaysOpenable S.opens_since S.moment l.fn.store l.store;
-      faults : S.faults l.fn.store ≤ S.faults l.store;
-      sectors : S.sector_count l.store ≡ S.sector_count l.fn.store;
-      snapshot : S.snapshot_of l.store ≡ S.snapshot_of l.fn.store;
+      looked : Looked S l.fn.store l.store;
     }

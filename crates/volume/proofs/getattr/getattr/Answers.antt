@@ -5,8 +5,8 @@ use Rattle.files_model.specs.declared.reply.Reply.TheVariants as reply
 use Rattle.files_model.specs.declared.reply.Stat.TheVariants as stat
 use Rattle.stable.proofs.Clocked.{weaker}
 use Rattle.v7_map.specs.View.{view}
-use Rattle.volume.specs.declared.found.Found.{Found}
-use Rattle.volume.specs.Found.{Finds, IsFile}
+use Rattle.v7_map.specs.declared.found.Found.{Found}
+use Rattle.v7_map.specs.Found.{Finds, IsFile}
 use Rattle.volume.proofs.Applying.{torn_same, done_same, done_refused}
 use Rattle.volume.proofs.Reading.{getattr-idle, getattr_stale, getattr_found}
 use Rattle.volume.proofs.getattr.getattr.Goals as goal
@@ -18,11 +18,11 @@ returns-in-Ok-Some-clause-applied g c =
     record {
       leaves = λ tells strong.
           let found : IsFile old c.args.file c.in-Ok-Some.found = subst (λ (o : Option Found). Finds old c.args.file o) c.in-Ok-Some.field-0-is (c.in-Ok-Some.ensures.found tells strong) in
-          done_same (Getattr c.args.file) c.args.cred.now c.args.now old (S.image c.find.new.store) (reply.Attr c.attributes_of.result) c.in-Ok-Some.ensures.image strong
+          done_same (Getattr c.args.file) c.args.cred.now c.args.now old (S.image c.find.new.store) (reply.Attr c.attributes_of.result) c.in-Ok-Some.ensures.looked.image strong
           (ap (λ (a : Attr). reply.Attr a) c.attributes_of.ensures ∙ getattr_found old strong c.args.file c.args.cred.now c.args.now c.in-Ok-Some.found found) (getattr-idle (view old) c.args.file);
       form = tt;
       cause = search rules;
-      crash = weaker c.in-Ok-Some.ensures.crash (λ i left is. torn_same (Getattr c.args.file) c.args.cred.now c.args.now old i is);
+      crash = weaker c.in-Ok-Some.ensures.looked.crash (λ i left is. torn_same (Getattr c.args.file) c.args.cred.now c.args.now old i is);
     }
 
 pub returns-in-Ok-None-clause-applied : goal.returns-in-Ok-None-clause-applied
@@ -32,9 +32,9 @@ returns-in-Ok-None-clause-applied g c =
     record {
       leaves = λ tells strong.
           let found : Finds old c.args.file None = subst (λ (o : Option Found). Finds old c.args.file o) c.in-Ok-None.field-0-is (c.in-Ok-None.ensures.found tells strong) in
-          done_refused (Getattr c.args.file) c.args.cred.now c.args.now old (S.image c.find.new.store) stat.Stale c.in-Ok-None.ensures.image strong
+          done_refused (Getattr c.args.file) c.args.cred.now c.args.now old (S.image c.find.new.store) stat.Stale c.in-Ok-None.ensures.looked.image strong
           (getattr_stale old strong c.args.file c.args.cred.now c.args.now found);
       form = tt;
       cause = search rules;
-      crash = weaker c.in-Ok-None.ensures.crash (λ i left is. torn_same (Getattr c.args.file) c.args.cred.now c.args.now old i is);
+      crash = weaker c.in-Ok-None.ensures.looked.crash (λ i left is. torn_same (Getattr c.args.file) c.args.cred.now c.args.now old i is);
     }

@@ -2,7 +2,7 @@ use Rattle.std.proofs.Common.{rules, true, ◌≡◌, arith, sym, ap, get_or, []
 use Rattle.v7_layout.specs.Records.{super_of}
 use Rattle.v7_map.specs.Damage.{has_sizes}
 use Rattle.v7_map.specs.Image.{sector_at}
-use Rattle.volume.proofs.Whole.{as_long}
+use Rattle.v7_map.proofs.Whole.{as_long}
 use Rattle.volume.proofs.HasVolume.{opens_short, opens_read, name_read, root_read}
 use Rattle.volume.proofs.opening.look.Goals as goal
 
@@ -30,5 +30,5 @@ returns-clause-found g c told =
     record {
       sizes = opens_read image c.sectors-sectors.result c.read-super_block.result (shape.size ∙ sym c.sectors-sectors.ensures) is ∙ can;
       name_is = name_read image c.read-super_block.result is;
-      root_is = λ z. record { ino = 2; generation = root_read c.sectors-sectors.result c.read-super_block.result can image is _ (c.in-Ok-get_sector.ensures.done told ∙ (λ z. get_or (c.in-Ok.ensures.image z) (c.inode_sector_of.ensures z) [])) c.inode_in.result c.inode_in.ensures.inode z };
+      root_is = λ z. record { ino = 2; generation = root_read c.sectors-sectors.result c.read-super_block.result can image is _ (c.in-Ok-get_sector.ensures.done told ∙ (λ z. get_or (c.in-Ok.ensures.looked.image z) (c.inode_sector_of.ensures z) [])) c.inode_in.result c.inode_in.ensures.inode z };
     }

@@ -24,19 +24,14 @@ loop-index-preserved g c =
       read = λ tells whole.
           let next : 512 * (c.loop-index.index + 1) ≡ 512 * c.loop-index.index + 512 = omega arith in
           c.in_ok-add_part.ensures.added tells
-          ∙ (λ z. i.read tells whole z ++ take (min c.min-end.result (512 * c.loop-index.index + 512) - max c.args.offset (512 * c.loop-index.index)) (drop (max c.args.offset (512 * c.loop-index.index) - 512 * c.loop-index.index) (stored_sector (i.image z) n c.loop-index.index)))
+          ∙ (λ z. i.read tells whole z ++ take (min c.min-end.result (512 * c.loop-index.index + 512) - max c.args.offset (512 * c.loop-index.index)) (drop (max c.args.offset (512 * c.loop-index.index) - 512 * c.loop-index.index) (stored_sector (i.looked.image z) n c.loop-index.index)))
           ∙ sym (read_more image n whole c.args.offset c.min-end.result c.loop-index.index (omega arith) (omega arith) (omega arith) (omega arith))
           ∙ ap (λ m. take (min m c.min-end.result - c.args.offset) (drop c.args.offset (stored_content image n))) (sym next);
       long =
           let more = c.in_ok-add_part.ensures.longer in
           let was = i.long in
           omega arith;
-      image = search rules;
-      crash = search rules;
-      opens = search rules;
-      faults = search rules;
-      sectors = search rules;
-      snapshot = search rules;
+      looked = search rules;
     }
 
 pub returns-clause-read : goal.returns-clause-read

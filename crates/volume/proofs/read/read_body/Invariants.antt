@@ -1,7 +1,6 @@
-use Rattle.std.proofs.Common.{◌≡◌, ◌≤◌, ◌-◌, ◌*◌, min, take, drop}
+use Rattle.std.proofs.Common.{◌≡◌, ◌-◌, ◌*◌, min, take, drop}
 use Rattle.std.specs.Prelude.{vec_len}
-use Rattle.stable.specs.Moments.{LeavesOnly}
-use Rattle.stable.specs.Store.{Same, StaysOpenable}
+use Rattle.stable.specs.Looked.{Looked}
 use Rattle.v7_map.specs.Image.{IsImage}
 use Rattle.v7_map.specs.Stored.{stored_content}
 use Rattle.volume.proofs.read.read_body.Given as goal
@@ -12,10 +11,5 @@ invariant-loop-index g l =
     record {
       read : S.tells → IsImage (S.image l.fn.store) → l.bytes.items ≡ take (min (512 * l.index) l.end - l.offset) (drop l.offset (stored_content (S.image l.fn.store) l.inode));
       long : vec_len l.bytes ≡ min (512 * l.index) l.end - l.offset;
-      image : S.image l.store ≡ S.image l.fn.store;
-      crash : LeavesOnly S.moment S.left_since l.fn.store l.store (Same (S.image l.fn.store));
-      opens : StaysOpenable S.opens_since S.moment l.fn.store l.store;
-      faults : S.faults l.fn.store ≤ S.faults l.store;
-      sectors : S.sector_count l.store ≡ S.sector_count l.fn.store;
-      snapshot : S.snapshot_of l.store ≡ S.snapshot_of l.fn.store;
+      looked : Looked S l.fn.store l.store;
     }

@@ -12,14 +12,14 @@ returns-in-Ok-clause-applied g c =
     let S = g.S.Stable in
     let old : Image = S.image c.args.store.now in
     let call : Call = Write c.args.file c.args.offset c.args.bytes.now in
-    let same = c.in-Planned.ensures.image in
+    let same = c.in-Planned.ensures.looked.image in
     record {
       leaves = λ tells strong.
           done_planned call c.args.cred.now c.args.now old c.in-Planned.plan c.in-Planned.attr (c.in-Planned.ensures.prepared tells strong) (S.image c.prepare.new.store) (S.image c.run_plan.new.store)
           same (c.in-Ok.ensures.done tells);
       form = tt;
       cause = search rules;
-      crash = goes_on (weaker c.in-Planned.ensures.crash (λ d left is. torn_same call c.args.cred.now c.args.now old d is)) c.in-Ok.ensures.crash (λ d left some strong.
+      crash = goes_on (weaker c.in-Planned.ensures.looked.crash (λ d left is. torn_same call c.args.cred.now c.args.now old d is)) c.in-Ok.ensures.crash (λ d left some strong.
           let told = g.met.S.Stable.clocked.told _ _ d left in
           torn_planned call c.args.cred.now c.args.now old c.in-Planned.plan c.in-Planned.attr (c.in-Planned.ensures.prepared told strong) (S.image c.prepare.new.store) d same some);
     }
@@ -29,14 +29,14 @@ returns-in-Planned-clause-applied g c =
     let S = g.S.Stable in
     let old : Image = S.image c.args.store.now in
     let call : Call = Write c.args.file c.args.offset c.args.bytes.now in
-    let same = c.in-Planned.ensures.image in
+    let same = c.in-Planned.ensures.looked.image in
     record {
       leaves = λ tells strong.
           interrupted_planned call c.args.cred.now c.args.now old c.in-Planned.plan c.in-Planned.attr (c.in-Planned.ensures.prepared tells strong) (S.image c.prepare.new.store) (S.image c.run_plan.new.store)
           same strong (ends g.met.S.Stable.clocked c.in-Err.ensures.crash tells);
       form = tt;
       cause = search rules;
-      crash = goes_on (weaker c.in-Planned.ensures.crash (λ d left is. torn_same call c.args.cred.now c.args.now old d is)) c.in-Err.ensures.crash (λ d left some strong.
+      crash = goes_on (weaker c.in-Planned.ensures.looked.crash (λ d left is. torn_same call c.args.cred.now c.args.now old d is)) c.in-Err.ensures.crash (λ d left some strong.
           let told = g.met.S.Stable.clocked.told _ _ d left in
           torn_planned call c.args.cred.now c.args.now old c.in-Planned.plan c.in-Planned.attr (c.in-Planned.ensures.prepared told strong) (S.image c.prepare.new.store) d same some);
     }
@@ -47,24 +47,24 @@ returns-clause-applied g c =
     let old : Image = S.image c.args.store.now in
     let call : Call = Write c.args.file c.args.offset c.args.bytes.now in
     record {
-      leaves = λ tells strong. kept_same call c.args.cred.now c.args.now old (S.image c.prepare.new.store) c.in-NoMemory.ensures.image strong;
+      leaves = λ tells strong. kept_same call c.args.cred.now c.args.now old (S.image c.prepare.new.store) c.in-NoMemory.ensures.looked.image strong;
       form = tt;
       cause = search rules;
-      crash = weaker c.in-NoMemory.ensures.crash (λ d left is. untouched_same call c.args.cred.now c.args.now old d is);
+      crash = weaker c.in-NoMemory.ensures.looked.crash (λ d left is. untouched_same call c.args.cred.now c.args.now old d is);
     }
 
 pub returns-in-Ok-clause-opens : goal.returns-in-Ok-clause-opens
 returns-in-Ok-clause-opens g c t le opens =
-    let first = c.in-Planned.ensures.crash in
-    c.in-Ok.ensures.opens c.in-Planned.ensures.stands.past t (omega (arith, le, first.later)) (c.in-Planned.ensures.opens t le opens)
+    let first = c.in-Planned.ensures.looked.crash in
+    c.in-Ok.ensures.opens c.in-Planned.ensures.stands.past t (omega (arith, le, first.later)) (c.in-Planned.ensures.looked.opens t le opens)
 
 pub returns-in-Planned-clause-opens : goal.returns-in-Planned-clause-opens
 returns-in-Planned-clause-opens g c t le opens =
-    let first = c.in-Planned.ensures.crash in
-    c.in-Err.ensures.opens c.in-Planned.ensures.stands.past t (omega (arith, le, first.later)) (c.in-Planned.ensures.opens t le opens)
+    let first = c.in-Planned.ensures.looked.crash in
+    c.in-Err.ensures.opens c.in-Planned.ensures.stands.past t (omega (arith, le, first.later)) (c.in-Planned.ensures.looked.opens t le opens)
 
 pub returns-in-Ok-clause-snapshot : goal.returns-in-Ok-clause-snapshot
-returns-in-Ok-clause-snapshot g c = puts_from _ 18 _ _ _ _ _ _ c.in-Planned.ensures.snapshot c.in-Planned.ensures.reason c.in-Planned.ensures.stands.few c.in-Ok.ensures.snapshot
+returns-in-Ok-clause-snapshot g c = puts_from _ 18 _ _ _ _ _ _ c.in-Planned.ensures.looked.snapshot c.in-Planned.ensures.reason c.in-Planned.ensures.stands.few c.in-Ok.ensures.snapshot
 
 pub returns-in-Planned-clause-snapshot : goal.returns-in-Planned-clause-snapshot
-returns-in-Planned-clause-snapshot g c = puts_from _ 18 _ _ _ _ _ _ c.in-Planned.ensures.snapshot c.in-Planned.ensures.reason c.in-Planned.ensures.stands.few c.in-Err.ensures.snapshot
+returns-in-Planned-clause-snapshot g c = puts_from _ 18 _ _ _ _ _ _ c.in-Planned.ensures.looked.snapshot c.in-Planned.ensures.reason c.in-Planned.ensures.stands.few c.in-Err.ensures.snapshot

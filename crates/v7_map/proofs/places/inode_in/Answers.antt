@@ -3,7 +3,7 @@ use Rattle.v7_layout.proofs.Parts.{part-cut}
 use Rattle.v7_layout.specs.Numbers.{part}
 use Rattle.v7_layout.specs.Records.{inode_of}
 use Rattle.v7_map.specs.Image.{inode_offset}
-use Rattle.volume.proofs.find.inode_in.Goals as goal
+use Rattle.v7_map.proofs.places.inode_in.Goals as goal
 
 cut_at : (bytes : List ℕ) (at from : ℕ) → at ≡ from → take (at + 64 - at) (drop at bytes) ≡ part bytes from 64
 cut_at bytes at from is = part-cut bytes at 64 ∙ ap (λ a. part bytes a 64) is

@@ -13,8 +13,8 @@ use Rattle.v7_map.proofs.Frames.{and_left}
 use Rattle.v7_map.proofs.SectorOf.{limited-same}
 use Rattle.v7_map.specs.Weak.{IsStrong}
 use Rattle.v7_map.proofs.Ranges.{inode_sector-inside}
-use Rattle.volume.specs.declared.found.Found.{Found}
-use Rattle.volume.specs.Found.{IsFile}
+use Rattle.v7_map.specs.declared.found.Found.{Found}
+use Rattle.v7_map.specs.Found.{IsFile}
 
 -- a volume is read-only as its super-block says
 read_only-read : (image : Image) → is_read_only (sector_at image 1) ≡ not ((super_of (sector_at image 1)).s_ronly == 0)

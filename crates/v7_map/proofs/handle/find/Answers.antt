@@ -3,9 +3,9 @@ use Rattle.v7_layout.specs.declared.inode.Inode.{Inode}
 use Rattle.v7_layout.specs.Records.{super_of}
 use Rattle.v7_map.specs.Image.{is_inode, inode_sector, sector_at}
 use Rattle.v7_map.specs.Stored.{is_current}
-use Rattle.volume.proofs.Whole.{as_long}
-use Rattle.volume.proofs.Finding.{not_short, number-read, finds_no_inode, not_outside, inode-read, finds_stale, finds_file}
-use Rattle.volume.proofs.find.find.Goals as goal
+use Rattle.v7_map.proofs.Whole.{as_long}
+use Rattle.v7_map.proofs.Finding.{not_short, number-read, finds_no_inode, not_outside, inode-read, finds_stale, finds_file}
+use Rattle.v7_map.proofs.handle.find.Goals as goal
 
 pub returns-then-sectors-lt2-clause-found : goal.returns-then-sectors-lt2-clause-found
 returns-then-sectors-lt2-clause-found g c = λ tells strong.
@@ -42,7 +42,7 @@ returns-then-not-is_current-clause-found g c = λ tells strong.
     let super : c.read-super_block.result ≡ super_of (sector_at image 1) = c.read-super_block.ensures ∙ ap super_of (c.in_ok-get_sector.ensures.done tells) in
     let inside : is_inode image c.args.file.ino ≡ true = sym (number-read image strong c.read-super_block.result c.args.file.ino super) ∙ search rules in
     let sector : c.in_ok-sector.sector ≡ sector_at image (inode_sector c.args.file.ino) =
-    c.in_ok-sector.ensures.done tells ∙ (λ z. get_or (c.in_ok-get_sector.ensures.image z) (c.inode_sector_of-place.ensures z) []) in
+    c.in_ok-sector.ensures.done tells ∙ (λ z. get_or (c.in_ok-get_sector.ensures.looked.image z) (c.inode_sector_of-place.ensures z) []) in
     let read = inode-read image strong c.args.file c.in_ok-sector.sector c.inode_in-stored.result inside sector c.inode_in-stored.ensures.inode in
     finds_stale image strong c.args.file inside c.inode_in-stored.result read (ap (λ (n : Inode). is_current n c.args.file.generation) (sym c.with_limits-inode.ensures) ∙ search rules)
 
@@ -53,6 +53,6 @@ returns-clause-found g c = λ tells strong.
     let super : c.read-super_block.result ≡ super_of (sector_at image 1) = c.read-super_block.ensures ∙ ap super_of (c.in_ok-get_sector.ensures.done tells) in
     let inside : is_inode image c.args.file.ino ≡ true = sym (number-read image strong c.read-super_block.result c.args.file.ino super) ∙ search rules in
     let sector : c.in_ok-sector.sector ≡ sector_at image (inode_sector c.args.file.ino) =
-    c.in_ok-sector.ensures.done tells ∙ (λ z. get_or (c.in_ok-get_sector.ensures.image z) (c.inode_sector_of-place.ensures z) []) in
+    c.in_ok-sector.ensures.done tells ∙ (λ z. get_or (c.in_ok-get_sector.ensures.looked.image z) (c.inode_sector_of-place.ensures z) []) in
     let read = inode-read image strong c.args.file c.in_ok-sector.sector c.inode_in-stored.result inside sector c.inode_in-stored.ensures.inode in
     finds_file image strong c.args.file inside c.read-super_block.result super _ refl sector c.inode_in-stored.result read c.with_limits-inode.ensures (search rules)

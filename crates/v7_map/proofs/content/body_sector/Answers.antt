@@ -1,14 +1,13 @@
-use Rattle.std.proofs.Common.{◌≡◌, ap, sym, ◌∙◌}
+use Rattle.std.proofs.Common.{◌≡◌, ap, ◌∙◌}
 use Rattle.files_model.specs.Files.{clipped}
-use Rattle.stable.specs.Store.{Image}
 use Rattle.v7_map.specs.Stored.{sector_in}
-use Rattle.volume.proofs.Holes.{sector_at_or_zeros, clipped_sector}
-use Rattle.volume.proofs.body.body_sector.Goals as goal
+use Rattle.v7_map.proofs.Holes.{sector_at_or_zeros, clipped_sector}
+use Rattle.v7_map.proofs.content.body_sector.Goals as goal
 
 pub returns-clause-bytes : goal.returns-clause-bytes
 returns-clause-bytes g c = λ tells.
     let image = g.S.Stable.image c.args.store.now in
     let at : c.in_ok-address.address ≡ sector_in image c.args.inode.now c.args.index = c.in_ok-address.ensures.found tells in
     c.clip.ensures
-    ∙ ap (clipped c.args.inode.now.size c.args.index) (c.in_ok-bytes.ensures.done tells ∙ (λ z. sector_at_or_zeros (c.in_ok-address.ensures.image z) (at z)))
+    ∙ ap (clipped c.args.inode.now.size c.args.index) (c.in_ok-bytes.ensures.done tells ∙ (λ z. sector_at_or_zeros (c.in_ok-address.ensures.looked.image z) (at z)))
     ∙ clipped_sector image c.args.inode.now c.args.index
