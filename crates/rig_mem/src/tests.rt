@@ -368,6 +368,20 @@ fn a_host_gives_and_takes_back(rt: HostRuntime) -> Result<(), Fail> {
 }
 
 #[test]
+fn the_call_of_a_number_finds_no_memory(rt: HostRuntime) -> Result<(), Fail> {
+    let alloc = rt.alloc();
+    let mut rigs = Vec::new(alloc);
+    rigs.push(MemRig::new(alloc, 4, 0)?)?;
+    let clock = MemClock::new(Vec::new(alloc));
+    let mut host = MemHost::<MemRig, StillPauser>::new(alloc, rigs, Vec::new(alloc), clock)?;
+    host.starve(2);
+    assert_eq!(rt; host.post(2049, 0).err(), Some(HostFault::Failed));
+    assert_eq!(rt; host.rig("disk", None).err(), Some(HostFault::NoMemory));
+    assert_eq!(rt; host.rig("disk", None).err(), None);
+    Ok(())
+}
+
+#[test]
 fn lines_are_kept_in_order(rt: HostRuntime) -> Result<(), Fail> {
     let mut say = MemSay::new(rt.alloc());
     assert_eq!(rt; say.say("one"), Ok(()));
