@@ -1,8 +1,7 @@
 //! Entries of a directory.
-ghost use Rattle.std.specs.Prelude.{◌≡◌};
 
 use crate::Name;
-use std::marker::Model;
+use lists::Items;
 
 /// One entry of a directory (RFC 1094 2.2.17, entry). The cookie leads to the next one.
 #[derive(Drop)]
@@ -13,31 +12,4 @@ pub struct Entry {
 }
 
 /// Entries in the order of their slots.
-#[derive(Drop)]
-pub struct Entries {
-    list: Vec<Entry>,
-}
-
-impl Model for Entries {
-    ghost use Rattle.std.specs.Prelude.{List};
-    ghost use Rattle.files_model.specs.declared.entries.Entry.{Entry};
-
-    ghost Value = { List Entry };
-
-    ghost view = { λ entries. entries.list.items };
-}
-
-impl Entries {
-    /// Takes a vector of entries.
-    pub fn new(list: Vec<Entry>) -> Entries
-        ensures { result ≡ list.items }
-    {
-        Entries { list }
-    }
-
-    pub fn list(&self) -> &[Entry]
-        ensures { result.now ≡ self.now }
-    {
-        self.list.as_slice()
-    }
-}
+pub type Entries = Items<Entry>;

@@ -7,7 +7,6 @@ mod bytes;
 mod call;
 mod credential;
 mod entries;
-mod no_memory;
 mod permission;
 mod reply;
 
@@ -17,7 +16,7 @@ pub use bytes::{Data, Name, Text};
 pub use call::{Call, WriteItem};
 pub use credential::{Cred, Gids};
 pub use entries::{Entries, Entry};
-pub use no_memory::NoMemory;
+pub use lists::NoMemory;
 pub use permission::{Want, may};
 pub use reply::{Reply, Stat};
 

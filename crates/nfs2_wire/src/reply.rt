@@ -7,7 +7,7 @@ use crate::entries::put_entries;
 use crate::results::{put_attr, put_data, put_handle, put_text, status_number};
 use crate::room::Room;
 use files_model::{Reply, Stat};
-use xdr_rpc::{ReplyBytes, Sheet, ShortReply};
+use xdr_rpc::{ReplyBytes, Sheet, ShortReply, reply_of_words};
 
 #[tactic(auto, unfolding(crate::specs::Replies::result_bytes))]
 fn put_result(sheet: &mut Sheet, reply: &Reply, volume: u32)
@@ -41,5 +41,5 @@ pub fn write_reply(room: Room, xid: u32, reply: &Reply, volume: u32) -> ReplyByt
 pub fn stale_reply(xid: u32) -> ShortReply
     ensures { result ≡ bytes_of xid (Reply.Refused Stat.Stale) 0 }
 {
-    ShortReply::of_words(&[xid, 1, 0, 0, 0, 0, status_number(Stat::Stale)])
+    reply_of_words(&[xid, 1, 0, 0, 0, 0, status_number(Stat::Stale)])
 }

@@ -24,6 +24,10 @@ disks_since since = Shown IsDisk since
 abbrev pub rig_of : {R : Type 0} → Direct R → R
 rig_of s = s.rig
 
+-- before the first call: DOWN, nothing dirty, the battery low, all counts at 0
+abbrev pub at_the_start : Snapshot
+at_the_start = record { state = state.Down; dirty = 0; battery = battery.Low; puts = 0; polls = 0; ups = 0; tries = 0 }
+
 -- it is always DOWN, and its battery counts as low
 abbrev pub snapshot_in : {R : Type 0} → Direct R → Snapshot
 snapshot_in s = record { state = state.Down; dirty = 0; battery = battery.Low; puts = s.puts; polls = s.polls; ups = s.ups; tries = 0 }

@@ -19,11 +19,12 @@ pub struct Direct<R> {
 
 impl<R: Rig> Direct<R> {
     ghost use Rattle.std.specs.Prelude.{◌≡◌};
-    ghost use Rattle.nfs_server.specs.Disks.{rig_of};
+    ghost use Rattle.nfs_server.specs.Disks.{rig_of, snapshot_in, at_the_start};
 
-    /// The disk of this rig. No device call is made.
+    /// The disk of this rig, its counts at 0. No device call is made.
     pub fn new(rig: R) -> Direct<R>
-        ensures { rig_of result ≡ rig }
+        ensures rig { rig_of result ≡ rig }
+        ensures snapshot { snapshot_in result ≡ at_the_start }
     {
         Direct {
             rig,

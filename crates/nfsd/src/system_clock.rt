@@ -1,4 +1,5 @@
-ghost use Rattle.std.specs.Prelude.{◌≡◌, ℕ, Some, None};
+ghost use Rattle.std.specs.Prelude.{◌≡◌, ◌/◌, ◌^◌, ◌-◌, ℕ, min, Some, None};
+ghost use Rattle.std.specs.Time.{system_time_nanos};
 
 use crate::count::count;
 use rig::Clock;
@@ -32,11 +33,18 @@ impl<T> SystemClock<T> {
 
 /// The seconds since 1970, up to 2 to the 32 less 1; 0 before 1970 and where the clock can't be read.
 pub fn seconds(system: &impl rt::Clock) -> u32 {
-    let Ok(now) = SystemTime::now(system) else {
-        return 0;
-    };
+    match SystemTime::now(system) {
+        Ok(now) => seconds_at(now),
+        Err(_) => 0,
+    }
+}
+
+// The whole seconds of a reading, which counts from 1970 on.
+fn seconds_at(now: SystemTime) -> u32
+    ensures { result ≡ min (system_time_nanos now / 1000000000) (2 ^ 32 - 1) }
+{
     match now.duration_since(SystemTime::UNIX_EPOCH) {
-        Ok(since) => u32::try_from(since.as_secs()).unwrap_or(u32::MAX),
+        Ok(since) => since.as_secs().min(u64::from(u32::MAX)) as u32,
         Err(_) => 0,
     }
 }

@@ -2,8 +2,8 @@
 ghost use Rattle.std.specs.Prelude.{◌≡◌, ◌<◌, ◌^◌};
 ghost use Rattle.nvram_map.specs.Words.{word_of};
 
+use lists::Items;
 use std::alloc::Global;
-use std::marker::Model;
 
 /// A set entry of a board: while it stands, the sector's content is in the buffer and not on the disk.
 #[derive(Clone, Copy, Debug, PartialEq, Eq)]
@@ -17,34 +17,7 @@ pub struct BoardEntry {
 }
 
 /// Entries of a board, seen as a list.
-#[derive(Drop)]
-pub struct BoardEntries {
-    found: Vec<BoardEntry>,
-}
-
-impl Model for BoardEntries {
-    ghost use Rattle.std.specs.Prelude.{List};
-    ghost use Rattle.nvram_map.specs.declared.board.BoardEntry.{BoardEntry};
-
-    ghost Value = { List BoardEntry };
-
-    ghost view = { λ entries. entries.found.items };
-}
-
-impl BoardEntries {
-    pub(crate) fn new(found: Vec<BoardEntry>) -> BoardEntries
-        ensures { result ≡ found.items }
-    {
-        BoardEntries { found }
-    }
-
-    /// The entries.
-    pub fn list(&self) -> &[BoardEntry]
-        ensures { result.now ≡ self.now }
-    {
-        self.found.as_slice()
-    }
-}
+pub type BoardEntries = Items<BoardEntry>;
 
 /// What a board holds that kept its memory.
 #[derive(Drop)]

@@ -1,8 +1,9 @@
 -- What a rig in memory tells, and how its calls can be made to fail (docs/DEVICES.md).
-use Rattle.std.specs.Prelude.{◌≡◌, ◌+◌, ◌-◌, ◌%◌, ℕ, Bool, true, false, ◌||◌, if◌then◌else◌, nat_eq, nat_le, List, length, reverse, replicate, Option, Some, None}
-use Rattle.rig.specs.Devices.{Devices, Sizes, Readings, HasShape, sizes_of}
+use Rattle.std.specs.Prelude.{◌≡◌, ◌+◌, ◌-◌, ◌%◌, ℕ, Bool, true, false, ◌||◌, if◌then◌else◌, nat_eq, nat_le, List, length, reverse, replicate, Option, Some, None, Result, OnOk, OnErr}
+use Rattle.rig.specs.Devices.{Devices, Sizes, Readings, HasShape, sizes_of, with_kept}
+use Rattle.stable.specs.Counts.{one_more}
 use Rattle.rig_mem.specs.Histories.{LeftSince}
-use Rattle.rig_mem.specs.Troubles.{Plan, plan_of, no_plan}
+use Rattle.rig_mem.specs.Troubles.{Plan, plan_of, no_plan, called}
 use Rattle.stable.specs.declared.battery.Battery.{Battery}
 use Rattle.stable.specs.declared.battery.Battery.TheVariants as battery
 use Rattle.rig_mem.specs.declared.mem_rig.MemRig.{MemRig}
@@ -83,6 +84,32 @@ pub record SameDevices (a b : MemRig) : Type 0 where
   pub faults : mem_faults b ≡ mem_faults a
   pub writes : b.writes ≡ a.writes
   pub readings : mem_readings b ≡ mem_readings a
+
+-- One device call more was made, and the battery is to say what it was to.
+pub record IsCalled (a b : MemRig) : Type 0 where
+  pub plan : mem_plan b ≡ called (mem_plan a)
+  pub says : mem_says b ≡ mem_says a
+
+-- The board was marked as kept, or the call failed; the mark of one that was kept stays.
+pub record IsMarked {T E : Type 0} (a b : MemRig) (result : Result T E) : Type 0 where
+  pub done : OnOk result (mem_contents b ≡ with_kept (mem_contents a))
+  pub kept : OnOk result (b.kept ≡ true)
+  pub kept_before : a.kept ≡ true → b.kept ≡ true
+
+-- A disk write is counted where it is done.
+pub record IsWriteCounted {T E : Type 0} (a b : MemRig) (result : Result T E) : Type 0 where
+  pub written : OnOk result (b.writes ≡ one_more a.writes)
+  pub unwritten : OnErr result (b.writes ≡ a.writes)
+
+-- Nothing has changed but the readings of the battery.
+pub record OnlyRead (a b : MemRig) : Type 0 where
+  pub plan : mem_plan b ≡ mem_plan a
+  pub says : mem_says b ≡ mem_says a
+  pub contents : mem_contents b ≡ mem_contents a
+  pub faults : mem_faults b ≡ mem_faults a
+  pub sizes : mem_sizes b ≡ mem_sizes a
+  pub is_kept : b.kept ≡ a.kept
+  pub disk_writes : b.writes ≡ a.writes
 
 -- a board that lost its memory: each word is pick, and each byte of a buffer is its low byte
 abbrev pub lost_board : Devices → ℕ → Devices

@@ -1,7 +1,8 @@
-ghost use Rattle.std.specs.Prelude.{◌≡◌, ◌+◌, ◌≤◌, Some, [], IfOk, vec_len, vec_capacity};
-ghost use Rattle.rig.specs.Hosts.{SameLoans, SameLines, TakesBack};
+ghost use Rattle.std.specs.Prelude.{◌≡◌, ◌+◌, ◌≤◌, Some, [], IfOk, OnErr, IsErrOf, vec_len, vec_capacity};
+ghost use Rattle.rig.specs.Hosts.{SameLoans, SameLines, Gives, TakesBack, HostCause};
 ghost use Rattle.rig_mem.specs.Clocks.{mem_seconds, second_at};
 
+use crate::asks::Asks;
 use crate::clock::MemClock;
 use crate::line::Line;
 use crate::link::MemLink;
@@ -9,8 +10,8 @@ use crate::say::MemSay;
 use rig::{Clock, Failed, Host, HostFault, NoMemory, Pauser, Post, Rig, Say};
 use std::alloc::Global;
 
-/// A host over lists of rigs and posts. It gives them from the front, answers Failed where none is left, and keeps what
-/// it is given back.
+/// A host over lists of rigs and posts. It gives them from the front, answers Failed where none is left and NoMemory where that was
+/// asked for here, and keeps what it is given back.
 #[derive(Drop)]
 pub struct MemHost<R, P> {
     rigs: Vec<R>,
@@ -21,12 +22,14 @@ pub struct MemHost<R, P> {
     posts_out: u64,
     clock: MemClock,
     said: MemSay,
-    faults: u64,
+    asks: Asks,
     ghost rig_room: { vec_len rigs + rigs_out + vec_len rigs_back ≤ vec_capacity rigs_back },
     ghost post_room: { vec_len posts + posts_out + vec_len posts_back ≤ vec_capacity posts_back },
 }
 
 impl<R: Rig + Send + Drop, P: Pauser + Send + Drop> MemHost<R, P> {
+    ghost use Rattle.rig_mem.specs.Hosts.{IsNewHost};
+
     /// A host that gives these, and the seconds of its clock. It reserves the room for what comes back.
     pub fn new(
         alloc: Global,
@@ -34,15 +37,7 @@ impl<R: Rig + Send + Drop, P: Pauser + Send + Drop> MemHost<R, P> {
         posts: Vec<Post<MemLink, MemClock, P>>,
         clock: MemClock,
     ) -> Result<MemHost<R, P>, NoMemory>
-        ensures rigs { IfOk result (λ host. ⟦<MemHost<R, P> as Host>⟧.rigs_left host ≡ Some rigs.items) }
-        ensures posts { IfOk result (λ host. ⟦<MemHost<R, P> as Host>⟧.posts_left host ≡ Some posts.items) }
-        ensures rigs_back { IfOk result (λ host. ⟦<MemHost<R, P> as Host>⟧.rigs_back host ≡ Some []) }
-        ensures posts_back { IfOk result (λ host. ⟦<MemHost<R, P> as Host>⟧.posts_back host ≡ Some []) }
-        ensures rigs_out { IfOk result (λ host. ⟦<MemHost<R, P> as Host>⟧.rigs_out host ≡ 0) }
-        ensures posts_out { IfOk result (λ host. ⟦<MemHost<R, P> as Host>⟧.posts_out host ≡ 0) }
-        ensures faults { IfOk result (λ host. ⟦<MemHost<R, P> as Host>⟧.host_faults host ≡ 0) }
-        ensures lines { IfOk result (λ host. ⟦<MemHost<R, P> as Say>⟧.lines host ≡ Some []) }
-        ensures say_faults { IfOk result (λ host. ⟦<MemHost<R, P> as Say>⟧.say_faults host ≡ 0) }
+        ensures { IfOk result (IsNewHost rigs.items posts.items) }
     {
         let rigs_back = Vec::with_capacity(alloc, rigs.len())?;
         let posts_back = Vec::with_capacity(alloc, posts.len())?;
@@ -55,8 +50,19 @@ impl<R: Rig + Send + Drop, P: Pauser + Send + Drop> MemHost<R, P> {
             posts_out: 0,
             clock,
             said: MemSay::new(alloc),
-            faults: 0,
+            asks: Asks::new(),
         })
+    }
+
+    /// Lets the call of that number find no memory, in place of one told before. Calls of `rig`, `make_rig` and `post` are numbered
+    /// together, from 1.
+    pub fn starve(&mut self, call: u64)
+        ensures asks { self.new.asks ≡ record self.old.asks { starved = Some call } }
+        ensures rigs { SameLoans ⟦<MemHost<R, P> as Host>⟧.rigs_left ⟦<MemHost<R, P> as Host>⟧.rigs_back ⟦<MemHost<R, P> as Host>⟧.rigs_out self.old self.new }
+        ensures posts { SameLoans ⟦<MemHost<R, P> as Host>⟧.posts_left ⟦<MemHost<R, P> as Host>⟧.posts_back ⟦<MemHost<R, P> as Host>⟧.posts_out self.old self.new }
+        ensures lines { SameLines ⟦<MemHost<R, P> as Say>⟧.lines ⟦<MemHost<R, P> as Say>⟧.say_faults self.old self.new }
+    {
+        self.asks.starve(call);
     }
 
     /// The rigs that it was given back, with their numbers, in order.
@@ -94,7 +100,7 @@ impl<R: Rig + Send + Drop, P: Pauser + Send + Drop> Say for MemHost<R, P> {
     ghost say_faults = { λ h. h.said.faults };
 
     ghost OnlySays = { λ a b. (b.rigs ≡ a.rigs) × (b.rigs_back ≡ a.rigs_back) × (b.rigs_out ≡ a.rigs_out)
-        × (b.posts ≡ a.posts) × (b.posts_back ≡ a.posts_back) × (b.posts_out ≡ a.posts_out) × (b.faults ≡ a.faults) };
+        × (b.posts ≡ a.posts) × (b.posts_back ≡ a.posts_back) × (b.posts_out ≡ a.posts_out) × (b.asks ≡ a.asks) };
 
     fn say(&mut self, line: &str) -> Result<(), Failed> {
         self.said.say(line)
@@ -122,21 +128,27 @@ impl<R: Rig + Send + Drop, P: Pauser + Send + Drop> Host for MemHost<R, P> {
 
     ghost posts_out = { λ h. h.posts_out };
 
-    ghost host_faults = { λ h. h.faults };
+    ghost host_faults = { λ h. h.asks.faults };
 
     ghost use Rattle.std.proofs.Common.{ap};
+    ghost use Rattle.rig_mem.specs.Hosts.{IsAsked};
 
     ghost say_keeps_rigs = { λ old new only. record { left = ap (λ v. Some v.items) only.0; back = ap (λ v. Some v.items) only.1; out = only.2 } };
 
     ghost say_keeps_posts = { λ old new only. record { left = ap (λ v. Some v.items) only.3; back = ap (λ v. Some v.items) only.4; out = only.5 } };
 
-    ghost say_keeps_faults = { λ old new only. only.6 };
+    ghost say_keeps_faults = { λ old new only. ap (λ asks. asks.faults) only.6 };
 
-    fn rig(&mut self, _disk: &str, _board: Option<&str>) -> Result<R, HostFault> {
-        if self.rigs.is_empty() {
-            self.faults = self.faults.saturating_add(1);
-            return Err(HostFault::Failed);
-        }
+    fn rig(&mut self, _disk: &str, _board: Option<&str>) -> Result<R, HostFault>
+        ensures gives { IfOk result (λ rig. Gives ⟦<MemHost<R, P> as Host>⟧.rigs_left ⟦<MemHost<R, P> as Host>⟧.rigs_back ⟦<MemHost<R, P> as Host>⟧.rigs_out self.old self.new rig) }
+        ensures refused { OnErr result (SameLoans ⟦<MemHost<R, P> as Host>⟧.rigs_left ⟦<MemHost<R, P> as Host>⟧.rigs_back ⟦<MemHost<R, P> as Host>⟧.rigs_out self.old self.new) }
+        ensures failed { IsErrOf result HostFault.Failed → self.old.rigs.items ≡ [] }
+        ensures posts { SameLoans ⟦<MemHost<R, P> as Host>⟧.posts_left ⟦<MemHost<R, P> as Host>⟧.posts_back ⟦<MemHost<R, P> as Host>⟧.posts_out self.old self.new }
+        ensures lines { SameLines ⟦<MemHost<R, P> as Say>⟧.lines ⟦<MemHost<R, P> as Say>⟧.say_faults self.old self.new }
+        ensures cause { HostCause (⟦<MemHost<R, P> as Host>⟧.host_faults self.old) (⟦<MemHost<R, P> as Host>⟧.host_faults self.new) result }
+        ensures asked { IsAsked self.old.asks self.new.asks result }
+    {
+        self.asks.next(self.rigs.is_empty())?;
         let rig = self.rigs.remove(0);
         self.rigs_out += 1;
         Ok(rig)
@@ -148,25 +160,35 @@ impl<R: Rig + Send + Drop, P: Pauser + Send + Drop> Host for MemHost<R, P> {
         sectors: u32,
         _board: Option<&str>,
         buffers: u32,
-    ) -> Result<R, HostFault> {
-        if self.rigs.is_empty() {
-            self.faults = self.faults.saturating_add(1);
-            return Err(HostFault::Failed);
-        }
+    ) -> Result<R, HostFault>
+        ensures gives { IfOk result (λ rig. Gives ⟦<MemHost<R, P> as Host>⟧.rigs_left ⟦<MemHost<R, P> as Host>⟧.rigs_back ⟦<MemHost<R, P> as Host>⟧.rigs_out self.old self.new rig) }
+        ensures sectors { IfOk result (λ rig. (R.sizes rig).sectors ≡ sectors) }
+        ensures buffers { IfOk result (λ rig. (R.sizes rig).buffers ≡ buffers) }
+        ensures refused { OnErr result (SameLoans ⟦<MemHost<R, P> as Host>⟧.rigs_left ⟦<MemHost<R, P> as Host>⟧.rigs_back ⟦<MemHost<R, P> as Host>⟧.rigs_out self.old self.new) }
+        ensures posts { SameLoans ⟦<MemHost<R, P> as Host>⟧.posts_left ⟦<MemHost<R, P> as Host>⟧.posts_back ⟦<MemHost<R, P> as Host>⟧.posts_out self.old self.new }
+        ensures lines { SameLines ⟦<MemHost<R, P> as Say>⟧.lines ⟦<MemHost<R, P> as Say>⟧.say_faults self.old self.new }
+        ensures cause { HostCause (⟦<MemHost<R, P> as Host>⟧.host_faults self.old) (⟦<MemHost<R, P> as Host>⟧.host_faults self.new) result }
+        ensures asked { IsAsked self.old.asks self.new.asks result }
+    {
+        self.asks.next(self.rigs.is_empty())?;
         if self.rigs[0].sectors() != sectors || self.rigs[0].buffers() != buffers {
-            self.faults = self.faults.saturating_add(1);
-            return Err(HostFault::Failed);
+            return Err(self.asks.fail());
         }
         let rig = self.rigs.remove(0);
         self.rigs_out += 1;
         Ok(rig)
     }
 
-    fn post(&mut self, _port: u16, _worker: u32) -> Result<Post<MemLink, MemClock, P>, HostFault> {
-        if self.posts.is_empty() {
-            self.faults = self.faults.saturating_add(1);
-            return Err(HostFault::Failed);
-        }
+    fn post(&mut self, _port: u16, _worker: u32) -> Result<Post<MemLink, MemClock, P>, HostFault>
+        ensures gives { IfOk result (λ post. Gives ⟦<MemHost<R, P> as Host>⟧.posts_left ⟦<MemHost<R, P> as Host>⟧.posts_back ⟦<MemHost<R, P> as Host>⟧.posts_out self.old self.new post) }
+        ensures refused { OnErr result (SameLoans ⟦<MemHost<R, P> as Host>⟧.posts_left ⟦<MemHost<R, P> as Host>⟧.posts_back ⟦<MemHost<R, P> as Host>⟧.posts_out self.old self.new) }
+        ensures failed { IsErrOf result HostFault.Failed → self.old.posts.items ≡ [] }
+        ensures rigs { SameLoans ⟦<MemHost<R, P> as Host>⟧.rigs_left ⟦<MemHost<R, P> as Host>⟧.rigs_back ⟦<MemHost<R, P> as Host>⟧.rigs_out self.old self.new }
+        ensures lines { SameLines ⟦<MemHost<R, P> as Say>⟧.lines ⟦<MemHost<R, P> as Say>⟧.say_faults self.old self.new }
+        ensures cause { HostCause (⟦<MemHost<R, P> as Host>⟧.host_faults self.old) (⟦<MemHost<R, P> as Host>⟧.host_faults self.new) result }
+        ensures asked { IsAsked self.old.asks self.new.asks result }
+    {
+        self.asks.next(self.posts.is_empty())?;
         let post = self.posts.remove(0);
         self.posts_out += 1;
         Ok(post)
@@ -177,12 +199,17 @@ impl<R: Rig + Send + Drop, P: Pauser + Send + Drop> Host for MemHost<R, P> {
         ensures rigs { SameLoans ⟦<MemHost<R, P> as Host>⟧.rigs_left ⟦<MemHost<R, P> as Host>⟧.rigs_back ⟦<MemHost<R, P> as Host>⟧.rigs_out self.old self.new }
         ensures posts { SameLoans ⟦<MemHost<R, P> as Host>⟧.posts_left ⟦<MemHost<R, P> as Host>⟧.posts_back ⟦<MemHost<R, P> as Host>⟧.posts_out self.old self.new }
         ensures lines { SameLines ⟦<MemHost<R, P> as Say>⟧.lines ⟦<MemHost<R, P> as Say>⟧.say_faults self.old self.new }
-        ensures faults { ⟦<MemHost<R, P> as Host>⟧.host_faults self.new ≡ ⟦<MemHost<R, P> as Host>⟧.host_faults self.old }
+        ensures asks { self.new.asks ≡ self.old.asks }
     {
         self.clock.now()
     }
 
-    fn give_back_rig(&mut self, volume: u32, rig: R) {
+    fn give_back_rig(&mut self, volume: u32, rig: R)
+        ensures back { TakesBack ⟦<MemHost<R, P> as Host>⟧.rigs_left ⟦<MemHost<R, P> as Host>⟧.rigs_back ⟦<MemHost<R, P> as Host>⟧.rigs_out self.old self.new volume rig }
+        ensures posts { SameLoans ⟦<MemHost<R, P> as Host>⟧.posts_left ⟦<MemHost<R, P> as Host>⟧.posts_back ⟦<MemHost<R, P> as Host>⟧.posts_out self.old self.new }
+        ensures lines { SameLines ⟦<MemHost<R, P> as Say>⟧.lines ⟦<MemHost<R, P> as Say>⟧.say_faults self.old self.new }
+        ensures asks { self.new.asks ≡ self.old.asks }
+    {
         if self.rigs_out > 0 {
             let _ = self.rigs_back.push((volume, rig));
             self.rigs_out -= 1;
@@ -193,7 +220,7 @@ impl<R: Rig + Send + Drop, P: Pauser + Send + Drop> Host for MemHost<R, P> {
         ensures back { TakesBack ⟦<MemHost<R, P> as Host>⟧.posts_left ⟦<MemHost<R, P> as Host>⟧.posts_back ⟦<MemHost<R, P> as Host>⟧.posts_out self.old self.new worker post }
         ensures rigs { SameLoans ⟦<MemHost<R, P> as Host>⟧.rigs_left ⟦<MemHost<R, P> as Host>⟧.rigs_back ⟦<MemHost<R, P> as Host>⟧.rigs_out self.old self.new }
         ensures lines { SameLines ⟦<MemHost<R, P> as Say>⟧.lines ⟦<MemHost<R, P> as Say>⟧.say_faults self.old self.new }
-        ensures faults { ⟦<MemHost<R, P> as Host>⟧.host_faults self.new ≡ ⟦<MemHost<R, P> as Host>⟧.host_faults self.old }
+        ensures asks { self.new.asks ≡ self.old.asks }
     {
         if self.posts_out > 0 {
             let _ = self.posts_back.push((worker, post));

@@ -1,6 +1,7 @@
 //! The outside in memory. Each object tells its contents, and its calls can be made to fail.
 #![tactic(auto)]
 
+mod asks;
 mod change;
 mod clock;
 mod event;

@@ -86,8 +86,8 @@ impl Link for MemLink {
     }
 
     fn send(&mut self, to: &Address, bytes: &[u8]) -> Result<(), Failed> {
-        let bytes = match SentBytes::copy(self.alloc, bytes) {
-            Ok(bytes) => bytes,
+        let bytes = match Vec::from_slice(self.alloc, bytes) {
+            Ok(kept) => SentBytes::new(kept),
             Err(_) => {
                 self.faults = self.faults.saturating_add(1);
                 return Err(Failed);

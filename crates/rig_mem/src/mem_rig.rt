@@ -1,5 +1,5 @@
 // A disk and a board in memory. Each call is done at once; what it changed is recorded, with what was there before.
-ghost use Rattle.std.specs.Prelude.{◌≡◌, ◌<◌, ◌≤◌, ◌^◌, [], length, replicate, IfOk, vec_len};
+ghost use Rattle.std.specs.Prelude.{◌≡◌, ◌<◌, ◌≤◌, ◌^◌, true, [], length, replicate, IfOk, vec_len};
 ghost use Rattle.rig.specs.Devices.{HasShape, IsBoard, sizes_of};
 
 mod crash;
@@ -46,20 +46,11 @@ impl MemRig {
         requires most { buffers ≤ 2048 }
         ensures { IfOk result (IsNew (zeros sectors) (replicate (words_for buffers) 0) (zeros buffers)) }
     {
+        let disk = zero_sectors(alloc, sectors)?;
         let words = if buffers == 0 { 0 } else { buffers + 1 };
-        Ok(MemRig {
-            disk: zero_sectors(alloc, sectors)?,
-            words: vec![in alloc; 0; words as usize]?,
-            buffers: zero_sectors(alloc, buffers)?,
-            kept: true,
-            history: History::new(alloc),
-            trouble: Trouble::new(alloc),
-            writes: 0,
-            readings: 0,
-            last: None,
-            battery: Battery::Good,
-            low_from: None,
-        })
+        let words = vec![in alloc; 0; words as usize]?;
+        let buffers = zero_sectors(alloc, buffers)?;
+        Ok(MemRig::with_devices(alloc, disk, words, buffers))
     }
 
     /// A disk with these sectors, without a board, and no faults.
@@ -68,10 +59,25 @@ impl MemRig {
         ensures { IsNew disk.items [] [] result }
     {
         are_whole(&disk);
+        MemRig::with_devices(alloc, disk, Vec::new(alloc), Vec::new(alloc))
+    }
+
+    // A disk and a board with this on them, and no call made.
+    fn with_devices(
+        alloc: Global,
+        disk: Vec<[u8; 512]>,
+        words: Vec<u64>,
+        buffers: Vec<[u8; 512]>,
+    ) -> MemRig
+        requires shape { HasShape (sizes_of disk.items words.items buffers.items) (record { disk = disk.items; words = words.items; buffers = buffers.items; kept = true }) }
+        requires board { IsBoard (sizes_of disk.items words.items buffers.items) true }
+        requires few { length disk.items < 2 ^ 32 }
+        ensures { IsNew disk.items words.items buffers.items result }
+    {
         MemRig {
             disk,
-            words: Vec::new(alloc),
-            buffers: Vec::new(alloc),
+            words,
+            buffers,
             kept: true,
             history: History::new(alloc),
             trouble: Trouble::new(alloc),

@@ -7,7 +7,12 @@ use rig::{Pauser, Point};
 pub struct StillPauser;
 
 impl StillPauser {
-    pub fn new() -> StillPauser {
+    ghost use Rattle.rig_mem.specs.declared.pauser.StillPauser.{StillPauser};
+
+    /// All of them are the same.
+    pub fn new() -> StillPauser
+        ensures { (other : StillPauser) → other ≡ result }
+    {
         StillPauser
     }
 }

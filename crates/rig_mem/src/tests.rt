@@ -302,7 +302,7 @@ fn a_link_hands_over_its_events_and_keeps_what_is_sent(rt: HostRuntime) -> Resul
     assert_eq!(rt; link.sent().len(), 1);
     if let Some(sent) = link.sent().first() {
         assert_eq!(rt; sent.to, HOME);
-        assert_eq!(rt; sent.bytes.bytes(), b"ok".as_slice());
+        assert_eq!(rt; sent.bytes.list(), b"ok".as_slice());
     }
     Ok(())
 }
@@ -364,6 +364,20 @@ fn a_host_gives_and_takes_back(rt: HostRuntime) -> Result<(), Fail> {
     assert_eq!(rt; host.posts().first().map(|back| back.0), Some(1));
     assert_eq!(rt; (host.lines().len(), host.posts().len()), (1, 1));
     assert_eq!(rt; host.into_rigs().len(), 2);
+    Ok(())
+}
+
+#[test]
+fn the_call_of_a_number_finds_no_memory(rt: HostRuntime) -> Result<(), Fail> {
+    let alloc = rt.alloc();
+    let mut rigs = Vec::new(alloc);
+    rigs.push(MemRig::new(alloc, 4, 0)?)?;
+    let clock = MemClock::new(Vec::new(alloc));
+    let mut host = MemHost::<MemRig, StillPauser>::new(alloc, rigs, Vec::new(alloc), clock)?;
+    host.starve(2);
+    assert_eq!(rt; host.post(2049, 0).err(), Some(HostFault::Failed));
+    assert_eq!(rt; host.rig("disk", None).err(), Some(HostFault::NoMemory));
+    assert_eq!(rt; host.rig("disk", None).err(), None);
     Ok(())
 }
 

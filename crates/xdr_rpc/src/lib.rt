@@ -13,7 +13,7 @@ pub use call::{Data9, Read, ReplyBytes, RpcCall};
 pub use datagram::read_call;
 pub use reading::{fixed_at, opaque_at, word_at};
 pub use sheet::Sheet;
-pub use short_reply::ShortReply;
+pub use short_reply::{ShortReply, reply_of_words};
 
 #[cfg(test)]
 mod tests;

@@ -2,29 +2,19 @@
 ghost use Rattle.v7_layout.specs.Written.{AddressesFit};
 
 use crate::tests::outside::{Host, datagram, has_sent_all, rig_of, served_all};
-use crate::tests::test_volume::{FRESH, disk_of, file, has_disk, rig, rig_with};
+use crate::tests::test_volume::{
+    ATTRIBUTES, CALL, CREDENTIAL, FRESH, HANDLE, REPLY, WRITE, disk_of, file, has_disk, rig,
+    rig_with,
+};
 use rig_mem::MemRig;
 use std::alloc::Global;
 use std::test::Fail;
 use v7_layout::Inode;
 
-// The procedures (RFC 1094 2.2).
+// The other procedures (RFC 1094 2.2).
 const GETATTR: u32 = 1;
 
 const READ: u32 = 6;
-
-const WRITE: u32 = 8;
-
-// A datagram of user 100 and group 100 begins so; the procedure follows.
-const CALL: [u32; 5] = [7, 0, 2, 0x186a3, 2];
-
-const CREDENTIAL: [u32; 10] = [1, 0x18, 0, 1, 0x63000000, 0x64, 0x64, 0, 0, 0];
-
-// A handle of file 3 of volume 0 begins so; the generation follows, and 16 zero bytes.
-const HANDLE: [u32; 3] = [0x56374e32, 0, 3];
-
-// Its accepted reply begins so; a status follows.
-const REPLY: [u32; 6] = [7, 1, 0, 0, 0, 0];
 
 // A procedure, the generation of the handle, the words of the other arguments, and the words of the reply from the status on.
 type Row = (u32, u32, &'static [u32], &'static [&'static [u32]]);
@@ -76,11 +66,6 @@ fn answered(alloc: Global, rig: MemRig, rows: &[Row]) -> Result<Option<Host>, Fa
         Ok(None)
     }
 }
-
-// The attributes of the file of 1,024 bytes, after a WRITE at second 2000.
-const ATTRIBUTES: [u32; 17] = [
-    1, 0x81a4, 1, 0x64, 0x64, 0x400, 0x200, 0, 2, 0, 3, 0x3e8, 0, 0x7d0, 0, 0x7d0, 0,
-];
 
 // READs past the worked WRITE: over both its sectors, at the end, and over the end.
 const ROWS: [Row; 6] = [

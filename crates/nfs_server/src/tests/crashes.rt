@@ -69,31 +69,37 @@ fn is_kept(alloc: Global, rig: MemRig, number: u64, shape: Shape) -> Result<bool
     Ok(told && is_volume(alloc, &rig, WRITTEN)?)
 }
 
+// A rig whose call of that number fails, or is cut where `cuts` is true.
+fn rig_to_fail(alloc: Global, number: u64, newer: bool, cuts: bool) -> Result<MemRig, Fail> {
+    let mut rig = rig(alloc, FRESH)?;
+    if cuts {
+        rig.stop_at(number, newer);
+        return Ok(rig);
+    }
+    rig.fail(number, newer)?;
+    Ok(rig)
+}
+
+// The first row that isn't as it has to be, where each call fails or is cut.
+fn broken_row(alloc: Global, cuts: bool) -> Result<Option<(u64, bool)>, Fail> {
+    for (number, newer, shape) in ROWS {
+        let rig = rig_to_fail(alloc, number, newer, cuts)?;
+        if !is_kept(alloc, rig, number, shape)? {
+            return Ok(Some((number, newer)));
+        }
+    }
+    Ok(None)
+}
+
 #[test]
 fn a_failed_call_is_answered_io(rt: HostRuntime) -> Result<(), Fail> {
-    let alloc = rt.alloc();
-    for (number, newer, shape) in ROWS {
-        let mut rig = rig(alloc, FRESH)?;
-        rig.fail(number, newer)?;
-        assert!(rt;
-            is_kept(alloc, rig, number, shape)?,
-            "call {number}, newer {newer}"
-        );
-    }
+    assert_eq!(rt; broken_row(rt.alloc(), false)?, None);
     Ok(())
 }
 
 #[test]
 fn a_cut_leaves_each_sector_old_or_new(rt: HostRuntime) -> Result<(), Fail> {
-    let alloc = rt.alloc();
-    for (number, newer, shape) in ROWS {
-        let mut rig = rig(alloc, FRESH)?;
-        rig.stop_at(number, newer);
-        assert!(rt;
-            is_kept(alloc, rig, number, shape)?,
-            "call {number}, newer {newer}"
-        );
-    }
+    assert_eq!(rt; broken_row(rt.alloc(), true)?, None);
     Ok(())
 }
 

@@ -1,4 +1,5 @@
 //! Statuses and lines.
+use crate::USAGE;
 use crate::tests::outside::{Host, datagram, has_said, has_sent, host, run, served};
 use crate::tests::test_volume::{FRESH, WRITTEN, is_volume, rig, worked_reply, worked_write};
 use rig_mem::{MemEvent, MemRig};
@@ -8,9 +9,6 @@ use std::test::Fail;
 const OPENED: &str = "volume 0 VOLA00 down recovered 0";
 
 const STOPPED: &str = "volume 0 down dirty 0";
-
-const USAGE: &str =
-    "usage: nfsd VOLUME.. [--workers N] [--turns T] [--port P] [--down] [--accept-loss]";
 
 #[test]
 fn the_worked_write_is_served(rt: HostRuntime) -> Result<(), Fail> {
@@ -26,23 +24,36 @@ fn the_worked_write_is_served(rt: HostRuntime) -> Result<(), Fail> {
     Ok(())
 }
 
-// What a host gives: a rig of so many sectors, or the test volume; a post, or none.
+// What a host gives: a rig of so many sectors, or the test volume; a post, or none. One of its calls may find no memory.
 #[derive(Clone, Copy)]
 struct Given {
     rig: bool,
     sectors: u32,
     post: bool,
+    starved: Option<u64>,
 }
 
 const ALL: Given = Given {
     rig: true,
     sectors: 64,
     post: true,
+    starved: None,
 };
 
 const NO_RIG: Given = Given { rig: false, ..ALL };
 
 const NO_POST: Given = Given { post: false, ..ALL };
+
+// The rig is asked for first, then the post.
+const NO_MEMORY_FOR_RIG: Given = Given {
+    starved: Some(1),
+    ..ALL
+};
+
+const NO_MEMORY_FOR_POST: Given = Given {
+    starved: Some(2),
+    ..ALL
+};
 
 const ONE_SECTOR: Given = Given { sectors: 1, ..ALL };
 
@@ -62,13 +73,17 @@ fn host_of(alloc: Global, given: Given) -> Result<Host, Fail> {
     events.push(MemEvent::Idle)?;
     events.push(datagram(b"hello"))?;
     events.push(MemEvent::Failed)?;
-    host(alloc, rigs, if given.post { Some(events) } else { None })
+    let mut host = host(alloc, rigs, if given.post { Some(events) } else { None })?;
+    if let Some(call) = given.starved {
+        host.starve(call);
+    }
+    Ok(host)
 }
 
 // Words, what the host gives, the status, and the lines.
 type Row = (&'static [&'static str], Given, u8, &'static [&'static str]);
 
-const ROWS: [Row; 14] = [
+const ROWS: [Row; 16] = [
     (&[], ALL, 64, &[USAGE]),
     (&["a:b"], ALL, 64, &[USAGE]),
     (&["d", "--turns", "0"], ALL, 64, &[USAGE]),
@@ -111,6 +126,8 @@ const ROWS: [Row; 14] = [
     ),
     (&["d"], NO_RIG, 66, &["cannot open d"]),
     (&["d"], NO_POST, 66, &[OPENED, "cannot open port 2049"]),
+    (&["d"], NO_MEMORY_FOR_RIG, 75, &["no memory"]),
+    (&["d"], NO_MEMORY_FOR_POST, 75, &[OPENED, "no memory"]),
     (
         &["d"],
         ONE_SECTOR,
@@ -126,7 +143,9 @@ fn words_and_hosts_decide_on_the_status(rt: HostRuntime) -> Result<(), Fail> {
         let mut host = host_of(rt.alloc(), gives)?;
         assert_eq!(rt; run(rt.alloc(), words, &mut host)?, status);
         assert!(rt; has_said(&host, lines), "status {status}");
-        assert_eq!(rt; host.rigs().len() == 1, gives.rig && status != 64);
+        let gives_rig = gives.rig && gives.starved != Some(1);
+        assert_eq!(rt; host.rigs().len() == 1, gives_rig && status != 64);
+        assert_eq!(rt; host.posts().len() == 1, status == 0 || status == 72);
     }
     Ok(())
 }

@@ -2,6 +2,7 @@
 ghost use Rattle.std.specs.Prelude.{◌≡◌, ◌<◌, true, length, get_or, [], refl, OnOk, OnErr, IfOk, is_ok};
 ghost use Rattle.stable.specs.Counts.{HasCause, one_more};
 ghost use Rattle.rig.specs.Devices.{IsRead, with_sector, with_word, with_buffer, with_kept, Unchanged, SectorOldOrNew, WordOldOrNew, BufferAny, KeptOldOrTrue};
+ghost use Rattle.rig.specs.Looked.{Looked, Stays, StaysOffDisk};
 ghost use Rattle.stable.specs.Moments.{LeavesOnly};
 
 use super::MemRig;
@@ -29,8 +30,8 @@ impl MemRig {
 }
 
 impl Rig for MemRig {
-    ghost use Rattle.rig_mem.specs.Troubles.{fate_of, called, Obeys};
-    ghost use Rattle.rig_mem.specs.Rigs.{mem_contents, mem_moment, mem_left_since, mem_sizes, mem_faults, mem_readings, mem_plan, mem_says, reading_of};
+    ghost use Rattle.rig_mem.specs.Troubles.{fate_of, Obeys};
+    ghost use Rattle.rig_mem.specs.Rigs.{mem_contents, mem_moment, mem_left_since, mem_sizes, mem_faults, mem_readings, mem_plan, mem_says, reading_of, IsCalled, IsMarked, IsWriteCounted, OnlyRead};
     ghost use Rattle.rig_mem.specs.Images.{mem_counts_now, mem_only_now, mem_wider, mem_shape};
 
     ghost tells = { Unit {0} };
@@ -82,11 +83,8 @@ impl Rig for MemRig {
 
     fn mark_kept(&mut self) -> Result<(), Failed>
         ensures obeys { Obeys (fate_of (mem_plan self.old) None) (mem_contents self.old) (with_kept (mem_contents self.old)) result (mem_contents self.new) }
-        ensures plan { mem_plan self.new ≡ called (mem_plan self.old) }
-        ensures says { mem_says self.new ≡ mem_says self.old }
-        ensures done { OnOk result (mem_contents self.new ≡ with_kept (mem_contents self.old)) }
-        ensures kept { OnOk result (self.new.kept ≡ true) }
-        ensures kept_before { self.old.kept ≡ true → self.new.kept ≡ true }
+        ensures called { IsCalled self.old self.new }
+        ensures marked { IsMarked self.old self.new result }
         ensures crash { LeavesOnly mem_moment mem_left_since self.old self.new (KeptOldOrTrue (mem_contents self.old)) }
         ensures cause { HasCause (mem_faults self.old) (mem_faults self.new) result }
         ensures sizes { mem_sizes self.new ≡ mem_sizes self.old }
@@ -109,16 +107,10 @@ impl Rig for MemRig {
 
     fn battery(&mut self) -> Battery
         ensures answer { result ≡ reading_of (mem_sizes self.old).words (mem_says self.old) (mem_readings self.new).count }
-        ensures plan { mem_plan self.new ≡ mem_plan self.old }
-        ensures says { mem_says self.new ≡ mem_says self.old }
         ensures read { IsRead (mem_readings self.old) result (mem_readings self.new) }
         ensures low { (mem_sizes self.old).words ≡ 0 → result ≡ Battery.Low }
-        ensures contents { mem_contents self.new ≡ mem_contents self.old }
+        ensures only { OnlyRead self.old self.new }
         ensures crash { LeavesOnly mem_moment mem_left_since self.old self.new (Unchanged (mem_contents self.old)) }
-        ensures faults { mem_faults self.new ≡ mem_faults self.old }
-        ensures sizes { mem_sizes self.new ≡ mem_sizes self.old }
-        ensures is_kept { self.new.kept ≡ self.old.kept }
-        ensures disk_writes { self.new.writes ≡ self.old.writes }
     {
         self.readings = self.readings.saturating_add(1);
         let answer = self.answer();
@@ -129,16 +121,10 @@ impl Rig for MemRig {
     fn read(&mut self, sector: u32, into: &mut [u8; 512]) -> Result<(), Failed>
         requires { sector < (mem_sizes self.old).sectors }
         ensures obeys { is_ok result ≡ is_ok (fate_of (mem_plan self.old) None) }
-        ensures plan { mem_plan self.new ≡ called (mem_plan self.old) }
-        ensures says { mem_says self.new ≡ mem_says self.old }
+        ensures called { IsCalled self.old self.new }
         ensures done { OnOk result (into.new ≡ get_or (mem_contents self.old).disk sector []) }
-        ensures contents { mem_contents self.new ≡ mem_contents self.old }
-        ensures crash { LeavesOnly mem_moment mem_left_since self.old self.new (Unchanged (mem_contents self.old)) }
+        ensures looked { Looked ⟦<MemRig as Rig>⟧ self.old self.new }
         ensures cause { HasCause (mem_faults self.old) (mem_faults self.new) result }
-        ensures sizes { mem_sizes self.new ≡ mem_sizes self.old }
-        ensures is_kept { self.new.kept ≡ self.old.kept }
-        ensures disk_writes { self.new.writes ≡ self.old.writes }
-        ensures readings { mem_readings self.new ≡ mem_readings self.old }
     {
         if self.trouble.next(None).is_err() {
             return Err(Failed);
@@ -150,16 +136,12 @@ impl Rig for MemRig {
     fn write(&mut self, sector: u32, bytes: &[u8; 512]) -> Result<(), Failed>
         requires { sector < (mem_sizes self.old).sectors }
         ensures obeys { Obeys (fate_of (mem_plan self.old) (Some sector)) (mem_contents self.old) (with_sector (mem_contents self.old) sector bytes.now) result (mem_contents self.new) }
-        ensures plan { mem_plan self.new ≡ called (mem_plan self.old) }
-        ensures says { mem_says self.new ≡ mem_says self.old }
+        ensures called { IsCalled self.old self.new }
         ensures done { OnOk result (mem_contents self.new ≡ with_sector (mem_contents self.old) sector bytes.now) }
         ensures crash { LeavesOnly mem_moment mem_left_since self.old self.new (SectorOldOrNew sector bytes.now (mem_contents self.old)) }
         ensures cause { HasCause (mem_faults self.old) (mem_faults self.new) result }
-        ensures sizes { mem_sizes self.new ≡ mem_sizes self.old }
-        ensures is_kept { self.new.kept ≡ self.old.kept }
-        ensures written { OnOk result (self.new.writes ≡ one_more self.old.writes) }
-        ensures unwritten { OnErr result (self.new.writes ≡ self.old.writes) }
-        ensures readings { mem_readings self.new ≡ mem_readings self.old }
+        ensures stays { Stays ⟦<MemRig as Rig>⟧ self.old self.new }
+        ensures counted { IsWriteCounted self.old self.new result }
     {
         let fate = self.trouble.next(Some(sector));
         let Some(takes) = takes(fate) else {
@@ -179,16 +161,10 @@ impl Rig for MemRig {
     fn load_word(&mut self, index: u32) -> Result<u64, Failed>
         requires { index < (mem_sizes self.old).words }
         ensures obeys { is_ok result ≡ is_ok (fate_of (mem_plan self.old) None) }
-        ensures plan { mem_plan self.new ≡ called (mem_plan self.old) }
-        ensures says { mem_says self.new ≡ mem_says self.old }
+        ensures called { IsCalled self.old self.new }
         ensures done { IfOk result (λ word. word ≡ get_or (mem_contents self.old).words index 0) }
-        ensures contents { mem_contents self.new ≡ mem_contents self.old }
-        ensures crash { LeavesOnly mem_moment mem_left_since self.old self.new (Unchanged (mem_contents self.old)) }
+        ensures looked { Looked ⟦<MemRig as Rig>⟧ self.old self.new }
         ensures cause { HasCause (mem_faults self.old) (mem_faults self.new) result }
-        ensures sizes { mem_sizes self.new ≡ mem_sizes self.old }
-        ensures is_kept { self.new.kept ≡ self.old.kept }
-        ensures disk_writes { self.new.writes ≡ self.old.writes }
-        ensures readings { mem_readings self.new ≡ mem_readings self.old }
     {
         if self.trouble.next(None).is_err() {
             return Err(Failed);
@@ -199,15 +175,11 @@ impl Rig for MemRig {
     fn store_word(&mut self, index: u32, word: u64) -> Result<(), Failed>
         requires { index < (mem_sizes self.old).words }
         ensures obeys { Obeys (fate_of (mem_plan self.old) None) (mem_contents self.old) (with_word (mem_contents self.old) index word) result (mem_contents self.new) }
-        ensures plan { mem_plan self.new ≡ called (mem_plan self.old) }
-        ensures says { mem_says self.new ≡ mem_says self.old }
+        ensures called { IsCalled self.old self.new }
         ensures done { OnOk result (mem_contents self.new ≡ with_word (mem_contents self.old) index word) }
         ensures crash { LeavesOnly mem_moment mem_left_since self.old self.new (WordOldOrNew index word (mem_contents self.old)) }
         ensures cause { HasCause (mem_faults self.old) (mem_faults self.new) result }
-        ensures sizes { mem_sizes self.new ≡ mem_sizes self.old }
-        ensures is_kept { self.new.kept ≡ self.old.kept }
-        ensures disk_writes { self.new.writes ≡ self.old.writes }
-        ensures readings { mem_readings self.new ≡ mem_readings self.old }
+        ensures stays { StaysOffDisk ⟦<MemRig as Rig>⟧ self.old self.new }
     {
         let fate = self.trouble.next(None);
         let Some(takes) = takes(fate) else {
@@ -226,16 +198,10 @@ impl Rig for MemRig {
     fn load_buffer(&mut self, index: u32, into: &mut [u8; 512]) -> Result<(), Failed>
         requires { index < (mem_sizes self.old).buffers }
         ensures obeys { is_ok result ≡ is_ok (fate_of (mem_plan self.old) None) }
-        ensures plan { mem_plan self.new ≡ called (mem_plan self.old) }
-        ensures says { mem_says self.new ≡ mem_says self.old }
+        ensures called { IsCalled self.old self.new }
         ensures done { OnOk result (into.new ≡ get_or (mem_contents self.old).buffers index []) }
-        ensures contents { mem_contents self.new ≡ mem_contents self.old }
-        ensures crash { LeavesOnly mem_moment mem_left_since self.old self.new (Unchanged (mem_contents self.old)) }
+        ensures looked { Looked ⟦<MemRig as Rig>⟧ self.old self.new }
         ensures cause { HasCause (mem_faults self.old) (mem_faults self.new) result }
-        ensures sizes { mem_sizes self.new ≡ mem_sizes self.old }
-        ensures is_kept { self.new.kept ≡ self.old.kept }
-        ensures disk_writes { self.new.writes ≡ self.old.writes }
-        ensures readings { mem_readings self.new ≡ mem_readings self.old }
     {
         if self.trouble.next(None).is_err() {
             return Err(Failed);
@@ -247,15 +213,11 @@ impl Rig for MemRig {
     fn store_buffer(&mut self, index: u32, bytes: &[u8; 512]) -> Result<(), Failed>
         requires { index < (mem_sizes self.old).buffers }
         ensures obeys { Obeys (fate_of (mem_plan self.old) None) (mem_contents self.old) (with_buffer (mem_contents self.old) index bytes.now) result (mem_contents self.new) }
-        ensures plan { mem_plan self.new ≡ called (mem_plan self.old) }
-        ensures says { mem_says self.new ≡ mem_says self.old }
+        ensures called { IsCalled self.old self.new }
         ensures done { OnOk result (mem_contents self.new ≡ with_buffer (mem_contents self.old) index bytes.now) }
         ensures crash { LeavesOnly mem_moment mem_left_since self.old self.new (BufferAny index (mem_contents self.old)) }
         ensures cause { HasCause (mem_faults self.old) (mem_faults self.new) result }
-        ensures sizes { mem_sizes self.new ≡ mem_sizes self.old }
-        ensures is_kept { self.new.kept ≡ self.old.kept }
-        ensures disk_writes { self.new.writes ≡ self.old.writes }
-        ensures readings { mem_readings self.new ≡ mem_readings self.old }
+        ensures stays { StaysOffDisk ⟦<MemRig as Rig>⟧ self.old self.new }
     {
         let fate = self.trouble.next(None);
         let Some(takes) = takes(fate) else {

@@ -1,10 +1,9 @@
 // What may be asked of a rig in memory: which of its calls fail, and what its battery says.
 ghost use Rattle.std.specs.Prelude.{◌≡◌, Some, OnOk, OnErr};
-ghost use Rattle.rig.specs.Devices.{Unchanged};
-ghost use Rattle.stable.specs.Moments.{LeavesOnly};
+ghost use Rattle.rig.specs.Looked.{Untouched};
 
 use super::MemRig;
-use rig::{Battery, NoMemory, SteeredRig};
+use rig::{Battery, NoMemory, Rig, SteeredRig};
 
 impl MemRig {
     ghost use Rattle.rig_mem.specs.Troubles.{with_failure, with_broken, with_stop, healed};
@@ -71,19 +70,12 @@ impl MemRig {
 
 impl SteeredRig for MemRig {
     ghost use Rattle.rig_mem.specs.Troubles.{with_stop_after};
-    ghost use Rattle.rig_mem.specs.Rigs.{mem_contents, mem_moment, mem_left_since, mem_sizes, mem_faults, mem_readings, mem_plan, mem_says};
+    ghost use Rattle.rig_mem.specs.Rigs.{mem_plan, mem_says};
 
     fn set_battery(&mut self, battery: Battery)
         ensures says { mem_says self.new ≡ record (mem_says self.old) { battery = battery } }
         ensures plan { mem_plan self.new ≡ mem_plan self.old }
-        ensures contents { mem_contents self.new ≡ mem_contents self.old }
-        ensures crash { LeavesOnly mem_moment mem_left_since self.old self.new (Unchanged (mem_contents self.old)) }
-        ensures moment { mem_moment self.new ≡ mem_moment self.old }
-        ensures faults { mem_faults self.new ≡ mem_faults self.old }
-        ensures sizes { mem_sizes self.new ≡ mem_sizes self.old }
-        ensures is_kept { self.new.kept ≡ self.old.kept }
-        ensures disk_writes { self.new.writes ≡ self.old.writes }
-        ensures readings { mem_readings self.new ≡ mem_readings self.old }
+        ensures untouched { Untouched ⟦<MemRig as Rig>⟧ self.old self.new }
     {
         MemRig::set_battery(self, battery);
     }
@@ -91,14 +83,7 @@ impl SteeredRig for MemRig {
     fn stop_after(&mut self, calls: u64, newer: bool)
         ensures plan { mem_plan self.new ≡ with_stop_after (mem_plan self.old) calls newer }
         ensures says { mem_says self.new ≡ mem_says self.old }
-        ensures contents { mem_contents self.new ≡ mem_contents self.old }
-        ensures crash { LeavesOnly mem_moment mem_left_since self.old self.new (Unchanged (mem_contents self.old)) }
-        ensures moment { mem_moment self.new ≡ mem_moment self.old }
-        ensures faults { mem_faults self.new ≡ mem_faults self.old }
-        ensures sizes { mem_sizes self.new ≡ mem_sizes self.old }
-        ensures is_kept { self.new.kept ≡ self.old.kept }
-        ensures disk_writes { self.new.writes ≡ self.old.writes }
-        ensures readings { mem_readings self.new ≡ mem_readings self.old }
+        ensures untouched { Untouched ⟦<MemRig as Rig>⟧ self.old self.new }
     {
         self.trouble.stop_after(calls, newer);
     }

@@ -29,16 +29,16 @@ returns-clause-served g c =
         backs = s.backs;
         loan = loan_within g.H.Host.posts_left g.H.Host.posts_back c.args.host.now c.args.host.now c.serve_volume-status.new.host c.give_back_rig.new.self s.posts s.backs refl refl s.loan back.posts.left back.posts.back;
         grows = subst (λ r. Grew R.tells (disk_of R.contents) R.faults R.moment (disks_since R.left_since) c.args.rig r s.holds) (sym c.into_rig.ensures)
-            (subst (λ r. Grew R.tells (disk_of R.contents) R.faults R.moment (disks_since R.left_since) r (rig_of c.serve_volume-status.result.1) s.holds) c.new.ensures
+            (subst (λ r. Grew R.tells (disk_of R.contents) R.faults R.moment (disks_since R.left_since) r (rig_of c.serve_volume-status.result.1) s.holds) c.new.ensures.rig
             (grew_through rig_of c.new.result c.serve_volume-status.result.1 s.holds s.grows));
         workers = s.workers;
         shared = s.shared;
         ends = s.ends;
-        opened = λ tells. subst (λ r. FoundAs s.course (disk_of R.contents r)) c.new.ensures (s.opened tells);
+        opened = λ tells. subst (λ r. FoundAs s.course (disk_of R.contents r)) c.new.ensures.rig (s.opened tells);
         had_rig = s.had_rig;
         status = s.status;
         said = said_before g.H.Say.lines g.H.Say.say_faults c.args.host.now c.serve_volume-status.new.host c.give_back_rig.new.self _ s.said back.lines;
-        device = λ is. subst (λ r. Rose (R.faults c.args.rig) (R.faults r)) (sym c.into_rig.ensures) (subst (λ r. Rose (R.faults r) (R.faults (rig_of c.serve_volume-status.result.1))) c.new.ensures (s.device is));
+        device = λ is. subst (λ r. Rose (R.faults c.args.rig) (R.faults r)) (sym c.into_rig.ensures) (subst (λ r. Rose (R.faults r) (R.faults (rig_of c.serve_volume-status.result.1))) c.new.ensures.rig (s.device is));
         host = λ is. let rose : Rose (g.H.Host.host_faults c.args.host.now) (g.H.Host.host_faults c.serve_volume-status.new.host) = s.host is in omega (arith, rose, same);
         later = omega (arith, same, before);
       },

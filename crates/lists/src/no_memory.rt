@@ -1,9 +1,7 @@
 //! Want of memory.
-ghost use Rattle.std.specs.Prelude.{◌≡◌};
-
 use std::alloc::{AllocError, AllocFailed};
 
-/// There was no memory for what was asked. Nothing was changed.
+/// There was no memory for what a call had to keep.
 #[derive(Clone, Copy, Debug, PartialEq, Eq)]
 pub struct NoMemory;
 
