@@ -53,7 +53,7 @@ module _ {R : Type 0} (r : Ghosts R) (clocked : IsClocked r.tells r.contents r.m
     overlay_now rig cache knows t tells le = (
       r.contents rig,
       clocked.now rig t tells le,
-      record { shows = (r.contents rig, inl refl, refl); whole = overlay_whole (r.sizes rig) (slots_of cache) (r.contents rig) (known_at r clocked shape told board rig cache knows tells) },
+      record { shows = (r.contents rig, inl refl, refl); whole = overlay_whole (r.sizes rig) (slots_of cache) (r.contents rig) (known_at r clocked shape told board knows tells) },
     )
 
   pub overlay_only : (rig : R) (i : Image) → overlays_since r.sizes r.left_since rig (r.moment rig) i → i ≡ overlay (r.contents rig)
