@@ -5,7 +5,7 @@ use Rattle.std.proofs.lemmas.Bool.Decides.{nat_tests}
 use Rattle.std.proofs.lemmas.Bool.{eqb-true, eqb-false, true≢false}
 use Rattle.std.proofs.Math.Dec.{eqb}
 use Rattle.rig.specs.Devices.{Devices, Sizes, HasShape, with_buffer, with_sector, with_word, BufferAny, SectorOldOrNew, WordOldOrNew}
-use Rattle.nvram_map.specs.Overlay.{is_entry, entry_sector, entry_buffer, laid, entries, overlay, SoundlyLeaves, OverlayOldOrNew, OverlayKept, IsAlone, IsFree, IsFor}
+use Rattle.nvram_map.specs.Overlay.{is_entry, entry_sector, entry_buffer, laid, entries, overlay, SoundlyLeaves, OverlayOldOrNew, OverlayKept, IsAlone, IsFree, IsFor, NeedsNothing}
 
 set-comm : {X : Type 0} (xs : List X) (i j : ℕ) (x y : X) → i ≢ j → set (set xs i x) j y ≡ set (set xs j y) i x
 set-comm [] i j x y ne = refl
@@ -72,14 +72,19 @@ laid-free (w ∷ es) buffers disk b x free = ap (laid es (set buffers b x)) (at 
     at true on =
         step-true (set buffers b x) w disk on ∙ ap (set disk (entry_sector w)) (get_or-set_other buffers b (entry_buffer w) x [] (free 0 on)) ∙ sym (step-true buffers w disk on)
 
+-- what needs nothing of the board stands for the disk
+pub bare : (d : Devices) → NeedsNothing d → overlay d ≡ d.disk
+bare d (inl lost) = ap (λ b. if b then laid (entries d) d.buffers d.disk else d.disk) lost
+bare d (inr none) = at d.kept
+  where
+    at : (b : Bool) → (if b then laid (entries d) d.buffers d.disk else d.disk) ≡ d.disk
+    at false = refl
+    at true = laid-none d.buffers (entries d) d.disk none
+
 pub sound_overlay : (before after : Devices) → SoundlyLeaves before after → overlay after ≡ overlay before
 sound_overlay before after (inl same) = ap overlay same
 sound_overlay before after (inr lost) =
-    ap (λ b. if b then laid (entries after) after.buffers after.disk else after.disk) lost.1.kept ∙ lost.1.disk ∙ sym (at before.kept)
-  where
-    at : (b : Bool) → (if b then laid (entries before) before.buffers before.disk else before.disk) ≡ before.disk
-    at false = refl
-    at true = laid-none before.buffers (entries before) before.disk lost.0
+    ap (λ b. if b then laid (entries after) after.buffers after.disk else after.disk) lost.1.kept ∙ lost.1.disk ∙ sym (bare before lost.0)
 
 -- a free buffer is filled
 pub buffer_overlay : (d : Devices) (b : ℕ) (x : List ℕ) → IsFree b d → overlay (with_buffer d b x) ≡ overlay d

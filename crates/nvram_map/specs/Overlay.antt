@@ -34,9 +34,13 @@ pub record IsLost (before after : Devices) : Type 0 where
   pub disk : after.disk ≡ before.disk
   pub kept : after.kept ≡ false
 
--- a crash left before, and then took the board's memory or didn't; where an entry was set it didn't
+-- nothing on the board is needed: it had lost its memory already, or no entry is set
+abbrev pub NeedsNothing : Devices → Type 0
+NeedsNothing d = (d.kept ≡ false) ⊎ NoEntry d
+
+-- a crash left before, and then took the board's memory or didn't; where something on it was needed it didn't
 abbrev pub SoundlyLeaves : Devices → Devices → Type 0
-SoundlyLeaves before after = (after ≡ before) ⊎ (NoEntry before × IsLost before after)
+SoundlyLeaves before after = (after ≡ before) ⊎ (NeedsNothing before × IsLost before after)
 
 -- that sector is old or new, and all others are unchanged
 abbrev pub OverlayOldOrNew : ℕ → List ℕ → List (List ℕ) → Devices → Type 0

@@ -2,6 +2,7 @@
 ghost use Rattle.std.specs.Prelude.{◌≡◌, ◌<◌, ◌^◌};
 ghost use Rattle.nvram_map.specs.Words.{word_of};
 
+use std::alloc::Global;
 use std::marker::Model;
 
 /// A set entry of a board: while it stands, the sector's content is in the buffer and not on the disk.
@@ -52,6 +53,21 @@ pub struct Board {
     pub name: [u8; 6],
     /// Its set entries, by rising index.
     pub entries: BoardEntries,
+}
+
+impl Board {
+    ghost use Rattle.std.specs.Prelude.{[]};
+
+    /// A board without an entry. No memory is taken.
+    pub fn empty(alloc: Global, name: [u8; 6]) -> Board
+        ensures name { result.name ≡ name }
+        ensures entries { result.entries ≡ [] }
+    {
+        Board {
+            name,
+            entries: BoardEntries::new(Vec::new(alloc)),
+        }
+    }
 }
 
 /// The word of an entry of this sector and this buffer.

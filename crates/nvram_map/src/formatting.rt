@@ -2,6 +2,7 @@
 ghost use Rattle.std.specs.Prelude.{◌≡◌, ◌<◌, OnOk};
 ghost use Rattle.stable.specs.Counts.{HasCause};
 ghost use Rattle.stable.specs.Moments.{LeavesOnly};
+ghost use Rattle.rig.specs.Looked.{StaysOffDisk};
 ghost use Rattle.nvram_map.specs.Overlay.{overlay};
 ghost use Rattle.nvram_map.specs.Words.{name_word, IsBoardOf};
 ghost use Rattle.nvram_map.specs.Formats.{formatted, PartlyFormatted, PartlyFreed, emptied};
@@ -18,10 +19,7 @@ fn free_entries<R: Rig>(rig: &mut R) -> Result<(), Failed>
     ensures done { R.tells → OnOk result (R.contents rig.new ≡ emptied (R.contents rig.old)) }
     ensures crash { LeavesOnly R.moment R.left_since rig.old rig.new (PartlyFreed (R.contents rig.old)) }
     ensures cause { HasCause (R.faults rig.old) (R.faults rig.new) result }
-    ensures sizes { R.sizes rig.new ≡ R.sizes rig.old }
-    ensures is_kept { R.is_kept rig.new ≡ R.is_kept rig.old }
-    ensures disk_writes { R.disk_writes rig.new ≡ R.disk_writes rig.old }
-    ensures readings { R.readings rig.new ≡ R.readings rig.old }
+    ensures stays { StaysOffDisk R.Rig rig.old rig.new }
 {
     for index in 0..rig.buffers() - 1 {
         rig.store_word(index + 2, 0)?;
@@ -40,10 +38,7 @@ pub fn format<R: Rig>(rig: &mut R, volume: [u8; 6]) -> Result<(), Failed>
     ensures image { R.tells → OnOk result (overlay (R.contents rig.new) ≡ (R.contents rig.old).disk) }
     ensures crash { LeavesOnly R.moment R.left_since rig.old rig.new (PartlyFormatted (name_word volume) (R.contents rig.old)) }
     ensures cause { HasCause (R.faults rig.old) (R.faults rig.new) result }
-    ensures sizes { R.sizes rig.new ≡ R.sizes rig.old }
-    ensures is_kept { R.is_kept rig.new ≡ R.is_kept rig.old }
-    ensures disk_writes { R.disk_writes rig.new ≡ R.disk_writes rig.old }
-    ensures readings { R.readings rig.new ≡ R.readings rig.old }
+    ensures stays { StaysOffDisk R.Rig rig.old rig.new }
 {
     free_entries(rig)?;
     rig.store_word(1, BigEndian::read_u48(&volume))?;

@@ -1,8 +1,7 @@
 // A board is read, word by word.
-ghost use Rattle.std.specs.Prelude.{◌≡◌, ◌≢◌, ◌↔◌, ◌<◌, ◌≤◌, true, false, get_or, OnOk, IfErr, IsErrOf};
+ghost use Rattle.std.specs.Prelude.{◌≡◌, ◌≢◌, ◌↔◌, ◌<◌, true, false, get_or, OnOk, IfErr, IsErrOf};
 ghost use Rattle.stable.specs.Counts.{Rose};
-ghost use Rattle.stable.specs.Moments.{LeavesOnly};
-ghost use Rattle.rig.specs.Devices.{Unchanged};
+ghost use Rattle.rig.specs.Looked.{Looked};
 ghost use Rattle.nvram_map.specs.Overlay.{entries};
 ghost use Rattle.nvram_map.specs.Words.{mark, name_word, name_in};
 ghost use Rattle.nvram_map.specs.Boards.{IsTold, IsSafe};
@@ -20,14 +19,8 @@ fn check_mark<R: Rig>(rig: &mut R) -> Result<(), BoardFault>
     requires { 0 < (R.sizes rig.old).buffers }
     ensures told { R.tells → OnOk result (get_or (R.contents rig.old).words 0 0 ≡ mark) }
     ensures refused { IfErr result (λ fault. IsUnmarked R.tells (R.contents rig.old) fault) }
-    ensures contents { R.contents rig.new ≡ R.contents rig.old }
-    ensures crash { LeavesOnly R.moment R.left_since rig.old rig.new (Unchanged (R.contents rig.old)) }
-    ensures later { R.faults rig.old ≤ R.faults rig.new }
+    ensures looked { Looked R.Rig rig.old rig.new }
     ensures cause { IsErrOf result BoardFault.Failed → Rose (R.faults rig.old) (R.faults rig.new) }
-    ensures sizes { R.sizes rig.new ≡ R.sizes rig.old }
-    ensures is_kept { R.is_kept rig.new ≡ R.is_kept rig.old }
-    ensures disk_writes { R.disk_writes rig.new ≡ R.disk_writes rig.old }
-    ensures readings { R.readings rig.new ≡ R.readings rig.old }
 {
     let word = rig.load_word(0)?;
     if word != MARK {
@@ -49,14 +42,8 @@ fn check_name<R: Rig>(rig: &mut R, volume: [u8; 6]) -> Result<(), BoardFault>
     requires { 0 < (R.sizes rig.old).buffers }
     ensures told { R.tells → OnOk result (get_or (R.contents rig.old).words 1 0 ≡ name_word volume) }
     ensures refused { IfErr result (λ fault. IsMisnamed R.tells volume (R.contents rig.old) fault) }
-    ensures contents { R.contents rig.new ≡ R.contents rig.old }
-    ensures crash { LeavesOnly R.moment R.left_since rig.old rig.new (Unchanged (R.contents rig.old)) }
-    ensures later { R.faults rig.old ≤ R.faults rig.new }
+    ensures looked { Looked R.Rig rig.old rig.new }
     ensures cause { IsErrOf result BoardFault.Failed → Rose (R.faults rig.old) (R.faults rig.new) }
-    ensures sizes { R.sizes rig.new ≡ R.sizes rig.old }
-    ensures is_kept { R.is_kept rig.new ≡ R.is_kept rig.old }
-    ensures disk_writes { R.disk_writes rig.new ≡ R.disk_writes rig.old }
-    ensures readings { R.readings rig.new ≡ R.readings rig.old }
 {
     let word = rig.load_word(1)?;
     if word != BigEndian::read_u48(&volume) {
@@ -72,14 +59,8 @@ fn read_entries<R: Rig>(alloc: Global, rig: &mut R) -> Result<BoardEntries, Boar
     requires { 0 < (R.sizes rig.old).buffers }
     ensures told { R.tells → AreTold (R.sizes rig.old) (entries (R.contents rig.old)) result }
     ensures safe { AreSafe (R.sizes rig.old) result }
-    ensures contents { R.contents rig.new ≡ R.contents rig.old }
-    ensures crash { LeavesOnly R.moment R.left_since rig.old rig.new (Unchanged (R.contents rig.old)) }
-    ensures later { R.faults rig.old ≤ R.faults rig.new }
+    ensures looked { Looked R.Rig rig.old rig.new }
     ensures cause { IsErrOf result BoardFault.Failed → Rose (R.faults rig.old) (R.faults rig.new) }
-    ensures sizes { R.sizes rig.new ≡ R.sizes rig.old }
-    ensures is_kept { R.is_kept rig.new ≡ R.is_kept rig.old }
-    ensures disk_writes { R.disk_writes rig.new ≡ R.disk_writes rig.old }
-    ensures readings { R.readings rig.new ≡ R.readings rig.old }
 {
     let mut found = Vec::new(alloc);
     for index in 0..rig.buffers() - 1 {
@@ -100,14 +81,8 @@ pub fn read_board<R: Rig>(alloc: Global, rig: &mut R, volume: [u8; 6]) -> Result
     ensures told { R.tells → IsTold (R.sizes rig.old) volume (R.contents rig.old) result }
     ensures safe { IsSafe (R.sizes rig.old) volume result }
     ensures lost { IsErrOf result BoardFault.Lost ↔ R.is_kept rig.old ≡ false }
-    ensures contents { R.contents rig.new ≡ R.contents rig.old }
-    ensures crash { LeavesOnly R.moment R.left_since rig.old rig.new (Unchanged (R.contents rig.old)) }
-    ensures later { R.faults rig.old ≤ R.faults rig.new }
+    ensures looked { Looked R.Rig rig.old rig.new }
     ensures cause { IsErrOf result BoardFault.Failed → Rose (R.faults rig.old) (R.faults rig.new) }
-    ensures sizes { R.sizes rig.new ≡ R.sizes rig.old }
-    ensures is_kept { R.is_kept rig.new ≡ R.is_kept rig.old }
-    ensures disk_writes { R.disk_writes rig.new ≡ R.disk_writes rig.old }
-    ensures readings { R.readings rig.new ≡ R.readings rig.old }
 {
     if !rig.kept() {
         return Err(BoardFault::Lost);

@@ -8,6 +8,8 @@ pub mod Places
 pub mod Runs
 pub mod Seen
 pub mod Listing
-mod Counting
+pub mod Counting
 pub mod Knowing
 pub mod Making
+mod Keeping
+mod Reading

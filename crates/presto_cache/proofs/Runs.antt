@@ -2,9 +2,7 @@
 use Rattle.std.proofs.Common.{◌≡◌, ◌⊎◌, inl, inr, ℕ, List, Result, Ok, Err, OnOk, OnErr, subst}
 use Rattle.rig.specs.Devices.{Devices, Sizes}
 use Rattle.stable.specs.Moments.{IsClocked, LeavesOnly}
-use Rattle.stable.proofs.Clocked.{goes_on, weaker, ends}
-use Rattle.presto_cache.specs.Board.{PutsOne, Keeps}
-use Rattle.presto_cache.proofs.Puts.{put_again, keep_again, kept_puts}
+use Rattle.stable.proofs.Clocked.{goes_on, ends}
 
 pub on_result : {T E : Type 0} {P Q : Type 0} (r : Result T E) → OnOk r P → OnErr r Q → P ⊎ Q
 on_result (Ok x) p q = inl p
@@ -19,19 +17,14 @@ pub on_err : {T E : Type 0} {P : Type 0} (r : Result T E) → P → OnErr r P
 on_err (Ok x) p = tt
 on_err (Err e) p = p
 
-pub puts_at : (sizes other : Sizes) (s t : ℕ) (x y : List ℕ) (old d : Devices) → other ≡ sizes → t ≡ s → y ≡ x → PutsOne other t y old d → PutsOne sizes s x old d
-puts_at sizes other s t x y old d a b c p =
-    subst (λ (z : Sizes). PutsOne z s x old d) a (subst (λ (n : ℕ). PutsOne other n x old d) b (subst (λ (l : List ℕ). PutsOne other t l old d) c p))
+-- the same put, at sizes, a sector and bytes that are equal
+pub puts_at : (P : Sizes → ℕ → List ℕ → Devices → Devices → Type 0) {sizes other : Sizes} {s t : ℕ} {x y : List ℕ} {old d : Devices} → other ≡ sizes → t ≡ s → y ≡ x → P other t y old d → P sizes s x old d
+puts_at P {sizes} {other} {s} {t} {x} {y} {old} {d} a b c p =
+    subst (λ z. P z s x old d) a (subst (λ n. P other n x old d) b (subst (λ l. P other t l old d) c p))
 
-module _ {R : Type 0} {tells : Type 0} {contents : R → Devices} {moment : R → ℕ} {left_since : R → ℕ → Devices → Type 0} (clocked : IsClocked tells contents moment left_since) (sizes : Sizes) where
-  -- a call more of the same put
-  pub puts_more : (s : ℕ) (x : List ℕ) {old mid new : R} {Q : Devices → Type 0} → LeavesOnly moment left_since old mid (PutsOne sizes s x (contents old)) → LeavesOnly moment left_since mid new Q
-      → (tells → (d : Devices) → Q d → PutsOne sizes s x (contents mid) d) → LeavesOnly moment left_since old new (PutsOne sizes s x (contents old))
-  puts_more s x so_far call is = goes_on so_far call (λ d left q. let tells = clocked.told _ _ d left in put_again sizes s x (ends clocked so_far tells) (is tells d q))
-
-  pub keeps_more : {old mid new : R} {Q : Devices → Type 0} → LeavesOnly moment left_since old mid (Keeps sizes (contents old)) → LeavesOnly moment left_since mid new Q
-      → (tells → (d : Devices) → Q d → Keeps sizes (contents mid) d) → LeavesOnly moment left_since old new (Keeps sizes (contents old))
-  keeps_more so_far call is = goes_on so_far call (λ d left q. let tells = clocked.told _ _ d left in keep_again sizes (ends clocked so_far tells) (is tells d q))
-
-  pub keeps_as_puts : (s : ℕ) (x : List ℕ) {old new : R} → LeavesOnly moment left_since old new (Keeps sizes (contents old)) → LeavesOnly moment left_since old new (PutsOne sizes s x (contents old))
-  keeps_as_puts s x run = weaker run (λ d left k. kept_puts sizes s x k)
+-- A call more, where what holds of one call and of the next holds of both. `P` is such as `PutsOnBoard sizes s x`, and `again` as `put_again_on_board`.
+pub runs_on : {R I : Type 0} {tells : Type 0} {contents : R → I} {moment : R → ℕ} {left_since : R → ℕ → I → Type 0} → IsClocked tells contents moment left_since → {old mid new : R} {Q : I → Type 0}
+    → (P : I → I → Type 0) → ((a b c : I) → P a b → P b c → P a c)
+    → LeavesOnly moment left_since old mid (P (contents old)) → LeavesOnly moment left_since mid new Q → (tells → (d : I) → Q d → P (contents mid) d) → LeavesOnly moment left_since old new (P (contents old))
+runs_on {contents = contents} clocked {old} {mid} P again so_far call is =
+    goes_on so_far call (λ d left q. let tells = clocked.told _ _ d left in again (contents old) (contents mid) d (ends clocked so_far tells) (is tells d q))

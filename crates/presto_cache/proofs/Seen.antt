@@ -12,7 +12,7 @@ use Rattle.presto_cache.proofs.Known.{IsKnown}
 use Rattle.presto_cache.proofs.Slots.{is_for, entry_names}
 use Rattle.presto_cache.proofs.Places.{no_entry}
 
-module _ (sizes : Sizes) (slots : List Slot) (old : Devices) (known : IsKnown sizes slots old) where
+module _ {sizes : Sizes} {slots : List Slot} {old : Devices} (known : IsKnown sizes slots old) where
   here : (s : ℕ) (x : List ℕ) → s < sizes.sectors → overlay old ≡ set (overlay old) s x → get_or (overlay old) s [] ≡ x
   here s x lt is = ap (λ l. get_or l s []) is ∙ get_or-set_same (overlay old) s x [] (omega (arith, lt, length-overlay old, known.shape.disk))
 

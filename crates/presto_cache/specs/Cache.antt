@@ -1,7 +1,9 @@
 -- A cache, seen by what is known of each entry of its board, and by its dirty entries in order.
-use Rattle.std.specs.Prelude.{◌≡◌, ◌⊎◌, ℕ, List, ◌∷◌, [], ◌++◌, Some, false, set}
+use Rattle.std.specs.Prelude.{◌≡◌, ◌⊎◌, ℕ, List, ◌∷◌, [], ◌++◌, Some, true, false, set}
 use Rattle.rig.specs.Devices.{Sizes}
+use Rattle.rig.specs.declared.rig.Rig.{Ghosts}
 use Rattle.presto_cache.specs.Slots.{AllBelowSectors, IsLowestUnused, at, place_in, settled}
+use Rattle.presto_cache.specs.Board.{IsOf}
 use Rattle.presto_cache.specs.Order.{listed}
 use Rattle.presto_cache.specs.Entries.{Entry, entries_in, changed, without_entry, entry_in}
 use Rattle.presto_cache.specs.declared.slot.Slot.{Slot}
@@ -24,6 +26,12 @@ buffers_of c = c.buffers
 pub record Suits (sizes : Sizes) (c : Cache) : Type 0 where
   pub buffers : buffers_of c ≡ sizes.buffers
   pub below : AllBelowSectors sizes.sectors (slots_of c)
+
+-- What is known of a cache and its rig: it was made for the rig's board, which kept its memory, and it is that of the board's words. `r` is what the rig's type tells, as `R.Rig` in a clause.
+pub record Knows {R : Type 0} (r : Ghosts R) (rig : R) (c : Cache) : Type 0 where
+  pub suits : Suits (r.sizes rig) c
+  pub is : r.tells → IsOf (slots_of c) (r.contents rig)
+  pub kept : r.is_kept rig ≡ true
 
 -- nothing is known otherwise
 pub record Same (old new : Cache) : Type 0 where

@@ -36,24 +36,26 @@ pub struct Cache {
     order: Order,
     buffers: u32,
     pub ghost are: { AreSlots buffers slots.items },
-    ghost ordered: { IsOrderOf slots.items (listed order) },
+    pub ghost ordered: { IsOrderOf slots.items (listed order) },
     ghost room: { length slots.items ≤ room_of order },
 }
 
 impl Cache {
-    ghost use Rattle.std.specs.Prelude.{◌≡◌, ◌+◌, ◌<◌, ◌↔◌, ℕ, true, [], None, Some, get_or, set, IfOk, IfSome, OnOk, OnErr, IsOk, false};
+    ghost use Rattle.std.specs.Prelude.{◌≡◌, ◌<◌, ℕ, true, [], get_or, set, IfOk, IfSome, IsOk, false};
     ghost use Rattle.std.specs.List.{count_by};
-    ghost use Rattle.stable.specs.Counts.{Rose, HasCause};
+    ghost use Rattle.stable.specs.Counts.{HasCause};
     ghost use Rattle.stable.specs.Moments.{LeavesOnly};
-    ghost use Rattle.nvram_map.specs.Overlay.{overlay, entries};
-    ghost use Rattle.rig.specs.Devices.{Devices, Sizes, Unchanged};
-    ghost use Rattle.presto_cache.specs.Slots.{NoDoubt, MayBeRead, spelled, at, is_dirty, in_doubt, sector_of, clear_failed, find_in, place_in};
+    ghost use Rattle.rig.specs.Devices.{Devices, Sizes};
+    ghost use Rattle.rig.specs.Looked.{Looked, StaysOffDisk};
+    ghost use Rattle.nvram_map.specs.Boards.{FitBoard, FitBuffers};
+    ghost use Rattle.nvram_map.specs.Overlay.{overlay};
+    ghost use Rattle.presto_cache.specs.Slots.{NoDoubt, at, is_dirty, in_doubt, sector_of, find_in};
     ghost use Rattle.presto_cache.specs.Entries.{AreByIndex, oldest_in};
     ghost use Rattle.presto_cache.specs.Made.{AreReadFrom, IsMadeOf};
-    ghost use Rattle.nvram_map.specs.Boards.{FitBoard, FitBuffers};
-    ghost use Rattle.presto_cache.specs.Board.{IsOf, PutsOne, Keeps};
-    ghost use Rattle.presto_cache.specs.Cache.{slots_of, entries_of, buffers_of, Suits, Same, Becomes, IsKept, IsKeptInDoubt, IsLast};
-    ghost use Rattle.presto_cache.specs.declared.slot.Slot.TheVariants.{Free};
+    ghost use Rattle.presto_cache.specs.Board.{IsOf, PutsOnBoard, KeepsOnBoard};
+    ghost use Rattle.presto_cache.specs.Stores.{on_disk_at};
+    ghost use Rattle.presto_cache.specs.Cache.{slots_of, entries_of, buffers_of, Suits, Knows, Becomes, IsLast};
+    ghost use Rattle.presto_cache.specs.Calls.{KeepAnswers, DropAnswers, IsBufferAt};
 
     /// A cache of what a board was read to have: its set entries are dirty, ordered by index, and the others free. `buffers`
     /// is the number of the board's buffers, up to 2,048. No later call takes memory.
@@ -93,27 +95,13 @@ impl Cache {
     /// exactly where the sector has no entry and none is free. After Failed the entry is as it was, or in doubt. No entry
     /// may be in doubt before, since with one there may be no buffer to spare.
     pub fn keep<R: Rig>(&mut self, rig: &mut R, sector: u32, bytes: &[u8; 512]) -> Keep
-        requires suits { Suits (R.sizes rig.old) self.old }
+        requires knows { Knows R.Rig rig.old self.old }
         requires sector { sector < (R.sizes rig.old).sectors }
         requires sure { NoDoubt (slots_of self.old) }
-        requires is { R.tells → IsOf (slots_of self.old) (R.contents rig.old) }
-        requires kept { R.is_kept rig.old ≡ true }
-        ensures full { (result ≡ Keep.Full) ↔ (place_in (slots_of self.old) sector ≡ None) }
-        ensures full_same { result ≡ Keep.Full → Same self.old self.new }
-        ensures full_rig { result ≡ Keep.Full → rig.new ≡ rig.old }
-        ensures done { result ≡ Keep.Kept → IsKept sector self.old self.new }
-        ensures image { R.tells → result ≡ Keep.Kept → overlay (R.contents rig.new) ≡ set (overlay (R.contents rig.old)) sector bytes.now }
-        ensures failed { result ≡ Keep.Failed → IsKeptInDoubt sector self.old self.new }
-        ensures cause { result ≡ Keep.Failed → Rose (R.faults rig.old) (R.faults rig.new) }
-        ensures later { R.faults rig.old ≤ R.faults rig.new }
-        ensures suits { Suits (R.sizes rig.new) self.new }
-        ensures is { R.tells → IsOf (slots_of self.new) (R.contents rig.new) }
-        ensures disk { R.tells → (R.contents rig.new).disk ≡ (R.contents rig.old).disk }
-        ensures crash { LeavesOnly R.moment R.left_since rig.old rig.new (PutsOne (R.sizes rig.old) sector bytes.now (R.contents rig.old)) }
-        ensures sizes { R.sizes rig.new ≡ R.sizes rig.old }
-        ensures kept { R.is_kept rig.new ≡ true }
-        ensures disk_writes { R.disk_writes rig.new ≡ R.disk_writes rig.old }
-        ensures readings { R.readings rig.new ≡ R.readings rig.old }
+        ensures answers { KeepAnswers R.Rig sector bytes.now rig.old rig.new self.old self.new result }
+        ensures knows { Knows R.Rig rig.new self.new }
+        ensures crash { LeavesOnly R.moment R.left_since rig.old rig.new (PutsOnBoard (R.sizes rig.old) sector bytes.now (R.contents rig.old)) }
+        ensures stays { StaysOffDisk R.Rig rig.old rig.new }
     {
         let Some(index) = place(&self.slots, sector) else {
             return Keep::Full;
@@ -137,27 +125,14 @@ impl Cache {
     /// At each moment of the call the sector is as it was, or as on the disk: where the disk has the same bytes, nothing
     /// that the board completes changes. After Failed the entry keeps its place, and is in doubt.
     pub fn drop_entry<R: Rig>(&mut self, rig: &mut R, index: u32) -> Result<(), Failed>
-        requires suits { Suits (R.sizes rig.old) self.old }
+        requires knows { Knows R.Rig rig.old self.old }
         requires index { index < length (slots_of self.old) }
-        requires is { R.tells → IsOf (slots_of self.old) (R.contents rig.old) }
-        requires kept { R.is_kept rig.old ≡ true }
-        ensures done { OnOk result (Becomes index Free self.old self.new) }
-        ensures failed { OnErr result (Becomes index (clear_failed (at (slots_of self.old) index)) self.old self.new) }
-        ensures free { is_dirty (at (slots_of self.old) index) ≡ false → IsOk result }
-        ensures free_rig { is_dirty (at (slots_of self.old) index) ≡ false → rig.new ≡ rig.old }
-        ensures image { R.tells → is_dirty (at (slots_of self.old) index) ≡ true → OnOk result (let sector = sector_of (at (slots_of self.old) index) in overlay (R.contents rig.new) ≡ set (overlay (R.contents rig.old)) sector (get_or (R.contents rig.old).disk sector [])) }
-        ensures cause { HasCause (R.faults rig.old) (R.faults rig.new) result }
-        ensures suits { Suits (R.sizes rig.new) self.new }
-        ensures is { R.tells → IsOf (slots_of self.new) (R.contents rig.new) }
-        ensures disk { R.tells → (R.contents rig.new).disk ≡ (R.contents rig.old).disk }
-        ensures crash { let sector = sector_of (at (slots_of self.old) index) in
-            LeavesOnly R.moment R.left_since rig.old rig.new (PutsOne (R.sizes rig.old) sector (get_or (R.contents rig.old).disk sector []) (R.contents rig.old)) }
-        ensures keeps { let sector = sector_of (at (slots_of self.old) index) in
-            R.tells → get_or (R.contents rig.old).disk sector [] ≡ get_or (overlay (R.contents rig.old)) sector [] → LeavesOnly R.moment R.left_since rig.old rig.new (Keeps (R.sizes rig.old) (R.contents rig.old)) }
-        ensures sizes { R.sizes rig.new ≡ R.sizes rig.old }
-        ensures kept { R.is_kept rig.new ≡ true }
-        ensures disk_writes { R.disk_writes rig.new ≡ R.disk_writes rig.old }
-        ensures readings { R.readings rig.new ≡ R.readings rig.old }
+        ensures answers { DropAnswers R.Rig index rig.old rig.new self.old self.new result }
+        ensures knows { Knows R.Rig rig.new self.new }
+        ensures crash { LeavesOnly R.moment R.left_since rig.old rig.new (PutsOnBoard (R.sizes rig.old) (sector_of (at (slots_of self.old) index)) (on_disk_at (slots_of self.old) index (R.contents rig.old)) (R.contents rig.old)) }
+        ensures keeps { R.tells → on_disk_at (slots_of self.old) index (R.contents rig.old) ≡ get_or (overlay (R.contents rig.old)) (sector_of (at (slots_of self.old) index)) []
+            → LeavesOnly R.moment R.left_since rig.old rig.new (KeepsOnBoard (R.sizes rig.old) (R.contents rig.old)) }
+        ensures stays { StaysOffDisk R.Rig rig.old rig.new }
     {
         if !is_taken(&slot_at(&self.slots, index)) {
             return Ok(());
@@ -181,23 +156,14 @@ impl Cache {
     /// which is None; any other word, which no rig has that tells its contents, is taken as the older. Failed comes where the
     /// load failed; of an entry that isn't in doubt nothing is loaded.
     pub fn buffer_at<R: Rig>(&self, rig: &mut R, index: u32) -> Result<Option<u32>, Failed>
-        requires suits { Suits (R.sizes rig.old) self.now }
+        requires knows { Knows R.Rig rig.old self.now }
         requires index { index < length (slots_of self.now) }
         requires dirty { is_dirty (at (slots_of self.now) index) ≡ true }
-        requires is { R.tells → IsOf (slots_of self.now) (R.contents rig.old) }
-        requires kept { R.is_kept rig.old ≡ true }
-        ensures reads { IfOk result (λ held. MayBeRead (at (slots_of self.now) index) held) }
-        ensures sure { in_doubt (at (slots_of self.now) index) ≡ false → IsOk result }
-        ensures unread { in_doubt (at (slots_of self.now) index) ≡ false → rig.new ≡ rig.old }
-        ensures word { R.tells → IfOk result (λ held. get_or (entries (R.contents rig.old)) index 0 ≡ spelled (sector_of (at (slots_of self.now) index)) held) }
-        ensures in_range { IfOk result (λ held. IfSome held (λ buffer. buffer < (R.sizes rig.old).buffers)) }
-        ensures contents { R.contents rig.new ≡ R.contents rig.old }
-        ensures crash { LeavesOnly R.moment R.left_since rig.old rig.new (Unchanged (R.contents rig.old)) }
+        ensures read { IfOk result (IsBufferAt R.Rig rig.old self.now index) }
+        ensures sure { in_doubt (at (slots_of self.now) index) ≡ false → IsOk result × (rig.new ≡ rig.old) }
         ensures cause { HasCause (R.faults rig.old) (R.faults rig.new) result }
-        ensures sizes { R.sizes rig.new ≡ R.sizes rig.old }
-        ensures kept { R.is_kept rig.new ≡ true }
-        ensures disk_writes { R.disk_writes rig.new ≡ R.disk_writes rig.old }
-        ensures readings { R.readings rig.new ≡ R.readings rig.old }
+        ensures looked { Looked R.Rig rig.old rig.new }
+        ensures knows { Knows R.Rig rig.new self.now }
     {
         match slot_at(&self.slots, index) {
             Slot::Free => Ok(None),

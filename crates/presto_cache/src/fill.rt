@@ -1,11 +1,12 @@
 // Storing one entry.
-ghost use Rattle.std.specs.Prelude.{◌≡◌, ◌⊎◌, ◌+◌, ◌^◌, ◌<◌, ◌≤◌, true, Some, length, get_or, set, false, OnOk, IfErr};
+ghost use Rattle.std.specs.Prelude.{◌≡◌, ◌⊎◌, ◌<◌, Some, length, false, IfErr};
 ghost use Rattle.stable.specs.Counts.{HasCause};
 ghost use Rattle.stable.specs.Moments.{LeavesOnly};
-ghost use Rattle.nvram_map.specs.Overlay.{overlay};
-ghost use Rattle.presto_cache.specs.Slots.{AreSlots, IsPlace, IsUnused, AllBelowSectors, at, settled};
-ghost use Rattle.presto_cache.specs.Board.{IsOf, PutsOne};
-ghost use Rattle.presto_cache.specs.declared.slot.Slot.TheVariants.{Set, Doubt};
+ghost use Rattle.rig.specs.Looked.{StaysOffDisk};
+ghost use Rattle.presto_cache.specs.Slots.{at, settled};
+ghost use Rattle.presto_cache.specs.Board.{KnowsSlots, PutsOnBoard};
+ghost use Rattle.presto_cache.specs.Stores.{IsFill, IsFilled};
+ghost use Rattle.presto_cache.specs.declared.slot.Slot.TheVariants.{Doubt};
 
 use crate::place::slot_at;
 use crate::slot::Slot;
@@ -21,25 +22,13 @@ pub fn fill<R: Rig>(
     buffer: u32,
     bytes: &[u8; 512],
 ) -> Result<(), Slot>
-    requires slots { AreSlots (R.sizes rig.old).buffers slots.now }
-    requires place { IsPlace slots.now index sector }
-    requires unused { IsUnused slots.now buffer }
-    requires buffer { buffer < (R.sizes rig.old).buffers }
-    requires sector { sector < (R.sizes rig.old).sectors }
-    requires below { AllBelowSectors (R.sizes rig.old).sectors slots.now }
-    requires is { R.tells → IsOf slots.now (R.contents rig.old) }
-    requires kept { R.is_kept rig.old ≡ true }
+    requires knows { KnowsSlots R.Rig rig.old slots.now }
+    requires fill { IsFill (R.sizes rig.old) slots.now index sector buffer }
     ensures failed { IfErr result (λ slot. (slot ≡ at slots.now index) ⊎ (slot ≡ Doubt sector (settled (at slots.now index)) (Some buffer) false)) }
-    ensures is_done { R.tells → OnOk result (IsOf (set slots.now index (Set sector buffer)) (R.contents rig.new)) }
-    ensures is_failed { R.tells → IfErr result (λ slot. IsOf (set slots.now index slot) (R.contents rig.new)) }
-    ensures image { R.tells → OnOk result (overlay (R.contents rig.new) ≡ set (overlay (R.contents rig.old)) sector bytes.now) }
-    ensures disk { R.tells → (R.contents rig.new).disk ≡ (R.contents rig.old).disk }
-    ensures crash { LeavesOnly R.moment R.left_since rig.old rig.new (PutsOne (R.sizes rig.old) sector bytes.now (R.contents rig.old)) }
+    ensures told { R.tells → IsFilled slots.now index sector buffer bytes.now (R.contents rig.old) (R.contents rig.new) result }
+    ensures crash { LeavesOnly R.moment R.left_since rig.old rig.new (PutsOnBoard (R.sizes rig.old) sector bytes.now (R.contents rig.old)) }
     ensures cause { HasCause (R.faults rig.old) (R.faults rig.new) result }
-    ensures sizes { R.sizes rig.new ≡ R.sizes rig.old }
-    ensures kept { R.is_kept rig.new ≡ true }
-    ensures disk_writes { R.disk_writes rig.new ≡ R.disk_writes rig.old }
-    ensures readings { R.readings rig.new ≡ R.readings rig.old }
+    ensures stays { StaysOffDisk R.Rig rig.old rig.new }
 {
     let was = slot_at(slots, index);
     match rig.store_buffer(buffer, bytes) {

@@ -1,8 +1,7 @@
 // Tests over a board of four buffers in memory.
-ghost use Rattle.std.specs.Prelude.{◌≡◌, ◌<◌, ◌≤◌, true, false, ℕ, length, IfSome, OnSome};
+ghost use Rattle.std.specs.Prelude.{◌≡◌, true, false, IfSome};
 ghost use Rattle.presto_cache.specs.Slots.{NoDoubt, in_doubt, at};
-ghost use Rattle.presto_cache.specs.Board.{IsOf};
-ghost use Rattle.presto_cache.specs.Cache.{Suits, slots_of};
+ghost use Rattle.presto_cache.specs.Cache.{Knows};
 
 use crate::slot::Slot;
 use crate::{Cache, Keep};
@@ -26,9 +25,7 @@ fn formatted(alloc: Global) -> Result<MemRig, NoMemory> {
 
 // The cache of a board that can be read. Reading makes five device calls.
 fn opened<R: Rig>(alloc: Global, rig: &mut R) -> Option<Cache>
-    ensures suits { IfSome result (λ cache. Suits (R.sizes rig.new) cache) }
-    ensures is { R.tells → IfSome result (λ cache. IsOf (slots_of cache) (R.contents rig.new)) }
-    ensures kept { OnSome result (R.is_kept rig.new ≡ true) }
+    ensures { IfSome result (Knows R.Rig rig.new) }
 {
     let buffers = rig.buffers();
     // its contract says that the number of sectors has 32 bits
@@ -61,12 +58,8 @@ fn are_sure(slots: &[Slot]) -> bool
 
 // Keeps a sector of equal bytes, where no entry is in doubt.
 fn keep_at<R: Rig>(cache: &mut Cache, rig: &mut R, sector: u32, byte: u8) -> Option<Keep>
-    requires suits { Suits (R.sizes rig.old) cache.old }
-    requires is { R.tells → IsOf (slots_of cache.old) (R.contents rig.old) }
-    requires kept { R.is_kept rig.old ≡ true }
-    ensures suits { Suits (R.sizes rig.new) cache.new }
-    ensures is { R.tells → IsOf (slots_of cache.new) (R.contents rig.new) }
-    ensures kept { R.is_kept rig.new ≡ true }
+    requires { Knows R.Rig rig.old cache.old }
+    ensures { Knows R.Rig rig.new cache.new }
 {
     if sector >= rig.sectors() || !are_sure(&cache.slots) {
         return None;

@@ -1,5 +1,6 @@
 use Rattle.std.proofs.Common.{rules, arith, ◌≡◌, ◌+◌, ◌≤◌}
 use Rattle.stable.proofs.Clocked.{goes_on}
+use Rattle.rig.proofs.Looking.{off_disk_again}
 use Rattle.nvram_map.proofs.Shapes.{shape_now}
 use Rattle.nvram_map.proofs.Freeing.{freed_cut, freed_step, freed_last}
 use Rattle.nvram_map.proofs.formatting.free_entries.Goals as goal
@@ -21,11 +22,7 @@ loop-index-preserved g c =
       crash = goes_on c.loop-index.invariant.crash c.store_word.ensures.crash (λ d left cut.
           let tells = g.met.R.Rig.clocked.told _ _ d left in
           freed_cut (R.sizes c.args.rig.now) (R.contents c.args.rig.now) (R.contents c.loop-index.rig) c.loop-index.index (shape_now g.met.R.Rig.clocked g.met.R.Rig.shape c.args.rig.now tells) (omega arith) (c.loop-index.invariant.done tells) d cut);
-      faults = omega arith;
-      sizes = search rules;
-      is_kept = search rules;
-      disk_writes = search rules;
-      readings = search rules;
+      stays = off_disk_again R c.loop-index.invariant.stays (search rules);
     }
 
 pub returns-clause-done : goal.returns-clause-done

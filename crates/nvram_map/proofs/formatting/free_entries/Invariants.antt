@@ -1,5 +1,6 @@
-use Rattle.std.proofs.Common.{◌≡◌, ◌≤◌}
+use Rattle.std.proofs.Common.{◌≡◌}
 use Rattle.stable.specs.Moments.{LeavesOnly}
+use Rattle.rig.specs.Looked.{StaysOffDisk}
 use Rattle.nvram_map.specs.Formats.{PartlyFreed, with_words, freed}
 use Rattle.nvram_map.proofs.formatting.free_entries.Given as goal
 
@@ -9,9 +10,5 @@ invariant-loop-index g l =
     record {
       done : R.tells → R.contents l.rig ≡ with_words (R.contents l.fn.rig) (freed l.index (R.contents l.fn.rig).words);
       crash : LeavesOnly R.moment R.left_since l.fn.rig l.rig (PartlyFreed (R.contents l.fn.rig));
-      faults : R.faults l.fn.rig ≤ R.faults l.rig;
-      sizes : R.sizes l.rig ≡ R.sizes l.fn.rig;
-      is_kept : R.is_kept l.rig ≡ R.is_kept l.fn.rig;
-      disk_writes : R.disk_writes l.rig ≡ R.disk_writes l.fn.rig;
-      readings : R.readings l.rig ≡ R.readings l.fn.rig;
+      stays : StaysOffDisk R l.fn.rig l.rig;
     }
