@@ -20,7 +20,7 @@ tried_stuck [] e f left still is = inr (f, [], ap (λ (l : List Entry). l ++ f �
 tried_stuck (x ∷ es) e f left still (inl sent) = inl (tried_stuck es e f left still sent)
 tried_stuck (x ∷ es) e f left still (inr stuck) = inr (stuck.0, stuck.1 ++ f ∷ [], ap (λ (l : List Entry). l ++ f ∷ []) stuck.2, stuck.3, tried_stuck es e f stuck.1 still stuck.4)
 
-no_entry : Entry
+abbrev pub no_entry : Entry
 no_entry = record { index = 0; slot = Free }
 
 -- So many of the entries were tried: those that failed stand behind the others.
@@ -52,17 +52,17 @@ tried_none all n = record {
     append-nil (x ∷ xs) = ap (λ (l : List Entry). x ∷ l) (append-nil xs)
 
 module _ (all : List Entry) (count : ℕ) (first result : Option Cause) (before mid now : ℕ) (old new : List Entry) (lt : count < length all) where
-  x : Entry
+  abbrev x : Entry
   x = get_or all count no_entry
 
   take_more : take (count + 1) all ≡ take count all ++ x ∷ []
-  take_more = subst (λ n. take n all ≡ take count all ++ x ∷ []) (omega arith) (take-suc all count no_entry lt)
+  take_more = let e : suc count ≡ count + 1 = omega arith in subst (λ (n : ℕ). take n all ≡ take count all ++ x ∷ []) e (take-suc all count no_entry lt)
 
   drop_here : drop count all ≡ x ∷ drop (count + 1) all
-  drop_here = subst (λ n. drop count all ≡ x ∷ drop n all) (omega arith) (drop-cons all count no_entry lt)
+  drop_here = let e : suc count ≡ count + 1 = omega arith in subst (λ (n : ℕ). drop count all ≡ x ∷ drop n all) e (drop-cons all count no_entry lt)
 
-  head_same : (a b : Entry) (as bs : List Entry) → a ∷ as ≡ b ∷ bs → a ≡ b
-  head_same a b as bs same = ap (λ (l : List Entry). get_or l 0 no_entry) same
+  head_same : (a b : Entry) (xs ys : List Entry) → a ∷ xs ≡ b ∷ ys → a ≡ b
+  head_same a b xs ys same = ap (λ (l : List Entry). get_or l 0 no_entry) same
 
   -- one more
   pub tried_more : HaveTried all count first before mid old → IsTriedNext first result mid now old new → HaveTried all (count + 1) result before now new

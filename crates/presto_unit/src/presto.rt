@@ -64,10 +64,10 @@ impl<R: Rig + Drop> Stable for Presto<R> {
     ghost snapshot_of = { λ s. shown s.track.state s.cache s.tally };
 
     ghost clocked = { record {
-      now = λ s t tells le. overlay_now R.Rig R.clocked R.shape R.kept_told R.board s.rig s.cache s.knows t tells le;
-      only = λ s i left. overlay_only R.Rig R.clocked s.rig i left;
-      wider = λ s t u i le left. overlay_wider R.Rig R.clocked s.rig t u i le left;
-      told = λ s t i left. overlay_told R.Rig R.clocked s.rig t i left;
+      now = λ s t tells le. overlay_now R.Rig.own R.clocked R.shape R.kept_told R.board s.rig s.cache s.knows t tells le;
+      only = λ s i left. overlay_only R.Rig.own R.clocked s.rig i left;
+      wider = λ s t u i le left. overlay_wider R.Rig.own R.clocked s.rig t u i le left;
+      told = λ s t i left. overlay_told R.Rig.own R.clocked s.rig t i left;
     } };
 
     ghost shape = { λ s t i left. left.2.whole };

@@ -1,5 +1,6 @@
 // A put in UP.
-ghost use Rattle.std.specs.Prelude.{◌≡◌, ◌≢◌, ◌<◌, None, OnOk};
+ghost use Rattle.std.specs.Prelude.{◌≡◌, ◌≢◌, ◌<◌, ◌≤◌, ◌+◌, ℕ, None, set, length, OnOk};
+ghost use Rattle.nvram_map.specs.Overlay.{overlay};
 ghost use Rattle.stable.specs.Counts.{HasCause};
 ghost use Rattle.stable.specs.States.{StaysOrFails};
 ghost use Rattle.stable.specs.declared.state.State.TheVariants.{Up};
