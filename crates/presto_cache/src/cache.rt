@@ -91,9 +91,9 @@ impl Cache {
     /// Keeps the bytes of a sector on the board: they fill the lowest buffer that no entry has, and then one word is stored,
     /// that of the sector's entry, or of the lowest free one, which becomes the youngest.
     ///
-    /// At each moment of the call the sector is old or new, and each other is as it was; after Kept it is new. Full comes
-    /// exactly where the sector has no entry and none is free. After Failed the entry is as it was, or in doubt. No entry
-    /// may be in doubt before, since with one there may be no buffer to spare.
+    /// At each moment of the call the sector is old or new, and each other is as it was; after Kept it is new. No sector of the
+    /// disk is written. Full comes exactly where the sector has no entry and none is free. After Failed the entry is as it
+    /// was, or in doubt. No entry may be in doubt before, since with one there may be no buffer to spare.
     pub fn keep<R: Rig>(&mut self, rig: &mut R, sector: u32, bytes: &[u8; 512]) -> Keep
         requires knows { Knows R.Rig rig.old self.old }
         requires sector { sector < (R.sizes rig.old).sectors }
@@ -123,7 +123,8 @@ impl Cache {
     /// Clears an entry, from 0: its word becomes 0, its sector is that of the disk, and it is free. A free entry stays so.
     ///
     /// At each moment of the call the sector is as it was, or as on the disk: where the disk has the same bytes, nothing
-    /// that the board completes changes. After Failed the entry keeps its place, and is in doubt.
+    /// that the board completes changes. No sector of the disk is written. After Failed the entry keeps its place, and is
+    /// in doubt.
     pub fn drop_entry<R: Rig>(&mut self, rig: &mut R, index: u32) -> Result<(), Failed>
         requires knows { Knows R.Rig rig.old self.old }
         requires index { index < length (slots_of self.old) }

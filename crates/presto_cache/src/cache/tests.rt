@@ -36,7 +36,10 @@ fn opened<R: Rig>(alloc: Global, rig: &mut R) -> Option<Cache>
     let Ok(board) = read_board(alloc, rig, VOLUME) else {
         return None;
     };
-    Cache::new(alloc, &board, buffers).ok()
+    let Ok(cache) = Cache::new(alloc, &board, buffers) else {
+        return None;
+    };
+    Some(cache)
 }
 
 fn is_sure(slot: &Slot) -> bool
