@@ -1,5 +1,5 @@
 -- What a command, and a flush, come to.
-use Rattle.std.proofs.Common.{◌≡◌, ◌≢◌, ℕ, zero, suc, ◌≤◌, Option, None, IsSome, IfSome, refl, sym, ◌∙◌, ap, subst, arith}
+use Rattle.std.proofs.Common.{◌≡◌, ◌≢◌, ℕ, zero, suc, ◌≤◌, Option, None, IsSome, IfSome, List, [], ◌∷◌, length, refl, sym, ◌∙◌, ap, subst, arith}
 use Rattle.stable.specs.Counts.{RoseBy, one_more}
 use Rattle.stable.specs.States.{after_command, flushes, reads_battery, HasLeft, IsCommanded}
 use Rattle.stable.specs.declared.battery.Battery.{Battery}
@@ -14,7 +14,8 @@ use Rattle.stable.specs.declared.command.Answer.{Answer}
 use Rattle.stable.specs.declared.snapshot.Snapshot.{Snapshot}
 use Rattle.presto_states.specs.Table.{after}
 use Rattle.presto_unit.specs.Happenings.{flushing, left_answer}
-use Rattle.presto_unit.specs.Flushing.{IsDeviceCause}
+use Rattle.presto_cache.specs.Entries.{Entry}
+use Rattle.presto_unit.specs.Flushing.{AreTried, IsDeviceCause}
 use Rattle.presto_unit.proofs.Happenings.{why_of, why_device, flushed_state}
 
 left_rose : (n before now : ℕ) → RoseBy n before now → before ≤ now → HasLeft (left_answer n) before now
@@ -89,3 +90,11 @@ upped result before now old new answered read unread later dirty puts polls trie
   polls = polls;
   tries = tries;
 }
+
+none_tried : (old new : List Entry) → length old ≡ 0 → AreTried old new → new ≡ old
+none_tried [] new none tried = tried
+none_tried (e ∷ es) new none tried = absurd (omega (arith, none))
+
+-- where nothing was to be flushed, the entries are as before
+pub idle_entries : (state : State) (asked : Command) (old new : List Entry) → asked ≢ command.Up → (asked ≡ command.Reset → state ≢ Up) → (state ≡ Down → length old ≡ 0) → AreTried old new → (flushes state asked → ⊥) → new ≡ old
+idle_entries state asked old new ne reset clean tried idle = none_tried old new (clean (idle_down state asked ne reset idle)) tried

@@ -2,7 +2,7 @@
 use Rattle.std.proofs.Common.{◌≡◌, ◌⊎◌, inl, inr, ⊎_elim, ℕ, ◌+◌, ◌<◌, ◌≤◌, List, [], ◌∷◌, ◌++◌, map, suc, ◌-◌, Option, Some, None, IsSome, true, false, length, drop, get_or, set, refl, sym, ◌∙◌, ap, subst, arith, length-append, if◌then◌else◌}
 use Rattle.std.proofs.lemmas.Bool.{true≢false}
 use Rattle.presto_cache.specs.Slots.{at, is_dirty, in_doubt, sector_of, clear_failed, NoDoubt, AreSlots, find_in}
-use Rattle.presto_cache.specs.Entries.{Entry, entry_in, with_entry, without_entry, changed, oldest_in}
+use Rattle.presto_cache.specs.Entries.{Entry, entries_in, entry_in, with_entry, without_entry, changed, oldest_in}
 use Rattle.presto_cache.specs.Cache.{slots_of, entries_of, Becomes, Same, IsLast}
 use Rattle.presto_cache.specs.declared.slot.Slot.{Slot}
 use Rattle.presto_cache.specs.declared.slot.Slot.TheVariants.{Free, Set, Doubt}
@@ -12,7 +12,9 @@ use Rattle.presto_cache.proofs.Listing.{nat_eq_same, nat_eq_other, by_head, leng
 use Rattle.presto_cache.specs.Order.{listed, times, without}
 use Rattle.presto_cache.proofs.Places.{entry_found}
 use Rattle.presto_cache.proofs.Clearing.{failed_sector_of}
-use Rattle.presto_unit.specs.Flushing.{AddsNone, NoDirty, IsSent, IsStuck, IsStill}
+use Rattle.stable.specs.Counts.{Rose}
+use Rattle.stable.specs.declared.state.Cause.{Cause}
+use Rattle.presto_unit.specs.Flushing.{AddsNone, NoDirty, IsSent, IsStuck, IsStuckNext}
 
 -- ---- slots
 
@@ -202,3 +204,33 @@ adds_same c = record { dirty = λ i h. h; sector = λ i h. refl; count = omega a
 
 pub adds_more : (a b c : Cache) → AddsNone a b → AddsNone b c → AddsNone a c
 adds_more a b c p q = record { dirty = λ i h. p.dirty i (q.dirty i h); sector = λ i h. q.sector i h ∙ p.sector i (q.dirty i h); count = omega (arith, p.count, q.count) }
+
+-- an entry that is listed is as its slot
+oldest_is : (slots : List Slot) (order : List ℕ) (i : ℕ) → oldest_in (entries_in slots order) ≡ Some i → entries_in slots order ≡ entry_in slots i ∷ drop 1 (entries_in slots order)
+oldest_is slots [] i h = absurd (none_some h)
+  where
+    none_some : {n : ℕ} → None ≡ Some n → ⊥
+    none_some e = cc
+oldest_is slots (x ∷ xs) i h = ap (λ n. entry_in slots n ∷ entries_in slots xs) (some_same h)
+  where
+    some_same : {a b : ℕ} → Some a ≡ Some b → a ≡ b
+    some_same e = cc
+
+-- the oldest entry failed
+pub stuck_next : (old new : Cache) (i : ℕ) (first : Option Cause) (before now : ℕ) → i < length (slots_of old) → oldest_in (entries_of old) ≡ Some i → IsStuck i old new → IsSome first → Rose before now
+    → IsStuckNext first before now (entries_of old) (entries_of new)
+stuck_next old new i first before now lt oldest stuck some rose = record {
+  some = some;
+  rose = rose;
+  oldest = entry_in (slots_of old) i;
+  first = oldest_is (slots_of old) (listed old.order) i oldest;
+  failed = entry_in (slots_of new) i;
+  last = stuck.entries;
+  still = record {
+    index = refl;
+    slot = ⊎_elim
+        (λ same. inl (ap (λ (l : List Slot). at l i) same))
+        (λ doubt. inr (ap (λ (l : List Slot). at l i) doubt ∙ ⊎_elim (λ a. a.1) (λ a. absurd (a.0 refl)) (at_set (slots_of old) i i (clear_failed (at (slots_of old) i)) lt)))
+        stuck.slots;
+  };
+}

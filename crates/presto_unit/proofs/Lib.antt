@@ -4,5 +4,7 @@ pub mod Entries
 pub mod Happenings
 pub mod Opening
 pub mod Room
+pub mod Runs
 pub mod Tried
 pub mod Whole
+pub mod Units

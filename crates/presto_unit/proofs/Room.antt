@@ -1,22 +1,26 @@
 -- Room for a sector on a board.
-use Rattle.std.proofs.Common.{◌≡◌, ◌≢◌, ⊎_elim, ℕ, ◌<◌, ◌≤◌, Bool, true, false, not, cond, suc, Option, Some, None, IsSome, List, [], ◌∷◌, length, set, refl, sym, ◌∙◌, ap, arith}
+use Rattle.std.proofs.Common.{◌≡◌, ◌≢◌, ⊎_elim, ℕ, ◌<◌, ◌≤◌, Bool, true, false, not, cond, suc, Option, Some, None, IsSome, List, [], ◌∷◌, ◌+◌, nat_eq, if◌then◌else◌, Result, Ok, Err, drop, length, set, refl, sym, ◌∙◌, ap, subst, arith}
 use Rattle.std.specs.List.{position, position_or_len}
 use Rattle.std.proofs.lemmas.Bool.{true≢false, eq-eqb, ltb-false}
 use Rattle.std.proofs.Math.Dec.{ltb}
 use Rattle.std.proofs.lemmas.List.Sums.{fails_before_first}
 use Rattle.std.proofs.lemmas.List.{length-set}
 use Rattle.std.proofs.lemmas.Option.{none-some}
-use Rattle.presto_cache.specs.Slots.{at, is_dirty, sector_of, is_for, find_in, place_in, or_else, NoDoubt, IsPlace}
+use Rattle.rig.specs.declared.rig.Rig.{Ghosts}
+use Rattle.presto_cache.specs.Calls.{KeptIt}
+use Rattle.presto_unit.specs.Putting.{StandsOnBoard}
+use Rattle.presto_unit.proofs.Entries.{sent_adds, stuck_adds}
+use Rattle.presto_cache.specs.Slots.{at, is_dirty, in_doubt, sector_of, is_for, find_in, place_in, or_else, NoDoubt, IsLowestUnused, IsPlace}
 use Rattle.presto_cache.specs.Order.{listed}
-use Rattle.presto_cache.specs.Entries.{Entry, entries_in, oldest_in}
-use Rattle.presto_cache.specs.Cache.{slots_of, entries_of, buffers_of, IsKept}
+use Rattle.presto_cache.specs.Entries.{Entry, changed, entries_in, oldest_in, with_entry, without_entry}
+use Rattle.presto_cache.specs.Cache.{slots_of, entries_of, buffers_of, Becomes, IsKept, IsKeptInDoubt, Same}
 use Rattle.presto_cache.specs.declared.slot.Slot.{Slot}
 use Rattle.presto_cache.specs.declared.slot.Slot.TheVariants.{Free, Set}
 use Rattle.presto_cache.specs.declared.cache.Cache.{Cache}
 use Rattle.presto_cache.proofs.Slots.{at_set}
 use Rattle.presto_cache.proofs.Places.{is_place, position-None}
 use Rattle.presto_cache.proofs.Listing.{none_listed}
-use Rattle.presto_unit.specs.Flushing.{oldest_sector}
+use Rattle.presto_unit.specs.Flushing.{oldest_sector, IsPutOnBoard, IsTried, RoomMade}
 
 -- none passes
 none_within : (p : Slot → Bool) (xs : List Slot) (k : ℕ) → position p xs ≡ None → k < length xs → p (at xs k) ≡ false
@@ -89,3 +93,77 @@ kept_stands old new s sure kept = case (find_in (slots_of new) s) refl
     case : (o : Option ℕ) → find_in (slots_of new) s ≡ o → IsSome o
     case (Some i) e = refl
     case None e = absurd (true≢false (sym (ap (is_for s) there ∙ eq-eqb s s refl) ∙ position-None (is_for s) (slots_of new) refl e kept.index))
+
+-- no entry is in doubt once a sector is kept
+pub kept_sure : (old new : Cache) (s : ℕ) → NoDoubt (slots_of old) → IsKept s old new → NoDoubt (slots_of new)
+kept_sure old new s sure kept i =
+    ap (λ (l : List Slot). in_doubt (at l i)) kept.is.slots
+    ∙ ⊎_elim (λ a. ap in_doubt a.1) (λ a. ap in_doubt a.1 ∙ sure i) (at_set (slots_of old) kept.index i (Set s kept.buffer) (is_place (buffers_of old) (slots_of old) s kept.index old.are sure kept.place).in_range)
+
+-- a sector was kept where there was room
+pub put_now : {R : Type 0} (r : Ghosts R) {rig now : R} (old new : Cache) (s : ℕ) (bytes : List ℕ) → NoDoubt (slots_of old) → place_in (slots_of old) s ≢ None → KeptIt r s bytes rig now old new → StandsOnBoard r s bytes rig now old new
+put_now r old new s bytes sure room kept = record {
+  put = record { kept = λ _. kept.cache; full = λ none. absurd (room none) };
+  stands = kept_stands old new s sure kept.cache;
+  sure = kept_sure old new s sure kept.cache;
+  image = kept.image;
+}
+
+-- what becomes of one entry adds one at most
+with_few : (e : Entry) (es : List Entry) → length (with_entry e es) ≤ length es + 1
+with_few e [] = omega arith
+with_few e (x ∷ es) = case (nat_eq x.index e.index) (with_few e es)
+  where
+    case : (b : Bool) → length (with_entry e es) ≤ length es + 1 → length (if b then e ∷ es else x ∷ with_entry e es) ≤ suc (length es) + 1
+    case true few = omega arith
+    case false few = omega (arith, few)
+
+without_few : (i : ℕ) (es : List Entry) → length (without_entry i es) ≤ length es
+without_few i [] = omega arith
+without_few i (x ∷ es) = case (nat_eq x.index i) (without_few i es)
+  where
+    case : (b : Bool) → length (without_entry i es) ≤ length es → length (if b then es else x ∷ without_entry i es) ≤ suc (length es)
+    case true few = omega arith
+    case false few = omega (arith, few)
+
+pub becomes_few : (old new : Cache) (i : ℕ) (slot : Slot) → Becomes i slot old new → length (entries_of new) ≤ length (entries_of old) + 1
+becomes_few old new i slot is = subst (λ (n : ℕ). n ≤ length (entries_of old) + 1) (sym (ap length is.entries)) (case (is_dirty slot))
+  where
+    case : (b : Bool) → length (if b then with_entry (record { index = i; slot = slot }) (entries_of old) else without_entry i (entries_of old)) ≤ length (entries_of old) + 1
+    case true = with_few (record { index = i; slot = slot }) (entries_of old)
+    case false = let few = without_few i (entries_of old) in omega (arith, few)
+
+pub failed_few : (old new : Cache) (s : ℕ) → IsKeptInDoubt s old new → length (entries_of new) ≤ length (entries_of old) + 1
+failed_few old new s failed = ⊎_elim (λ same. let e = ap length same.entries in omega (arith, e)) (λ is. becomes_few old new failed.index _ is) failed.is
+
+pub sent_few : {T E : Type 0} (old new : Cache) (i : ℕ) (result : Result T E) → i < length (slots_of old) → is_dirty (at (slots_of old) i) ≡ true → oldest_in (entries_of old) ≡ Some i → IsTried i result old new → length (entries_of new) ≤ length (entries_of old)
+sent_few old new i (Ok x) lt dirty oldest is = (sent_adds old i lt dirty oldest new is).count
+sent_few old new i (Err e) lt dirty oldest is = (stuck_adds old i lt dirty oldest new is).count
+
+-- the same of a cache that is known to be the same
+same_kept : (a b c : Cache) (s : ℕ) → Same a b → IsKept s b c → IsKept s a c
+same_kept a b c s same kept = record {
+  index = kept.index;
+  buffer = kept.buffer;
+  place = ap (λ (l : List Slot). place_in l s) (sym same.slots) ∙ kept.place;
+  lowest = subst (λ (l : List Slot). IsLowestUnused l kept.buffer) same.slots kept.lowest;
+  is = record {
+    slots = kept.is.slots ∙ ap (λ (l : List Slot). set l kept.index (Set s kept.buffer)) same.slots;
+    entries = kept.is.entries ∙ ap (changed kept.index (Set s kept.buffer)) same.entries;
+  };
+}
+
+same_room : (a b c : Cache) (s : ℕ) → Same a b → RoomMade s b c → RoomMade s a c
+same_room a b c s same room = record {
+  index = room.index;
+  mid = room.mid;
+  oldest = ap oldest_in (sym same.entries) ∙ room.oldest;
+  sent = record { slots = room.sent.slots ∙ ap (λ (l : List Slot). set l room.index Free) same.slots; entries = room.sent.entries ∙ ap (drop 1) same.entries };
+  kept = room.kept;
+}
+
+pub same_put : (a b c : Cache) (s : ℕ) → Same a b → IsPutOnBoard s b c → IsPutOnBoard s a c
+same_put a b c s same put = record {
+  kept = λ room. same_kept a b c s same (put.kept (λ none. room (ap (λ (l : List Slot). place_in l s) (sym same.slots) ∙ none)));
+  full = λ none. same_room a b c s same (put.full (ap (λ (l : List Slot). place_in l s) same.slots ∙ none));
+}

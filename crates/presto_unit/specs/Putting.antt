@@ -5,8 +5,9 @@ use Rattle.stable.specs.declared.state.State.{State}
 use Rattle.stable.specs.declared.state.State.TheVariants.{Up}
 use Rattle.rig.specs.declared.rig.Rig.{Ghosts}
 use Rattle.nvram_map.specs.Overlay.{overlay}
-use Rattle.presto_cache.specs.Cache.{slots_of, entries_of}
-use Rattle.presto_cache.specs.Slots.{NoDoubt, find_in, place_in}
+use Rattle.presto_cache.specs.Cache.{slots_of, entries_of, Becomes}
+use Rattle.presto_cache.specs.Slots.{NoDoubt, at, find_in, place_in, sector_of}
+use Rattle.presto_cache.specs.declared.slot.Slot.TheVariants.{Free}
 use Rattle.presto_cache.specs.declared.cache.Cache.{Cache}
 use Rattle.presto_unit.specs.Disk.{PutsOneMakingRoom}
 use Rattle.presto_unit.specs.Flushing.{AddsNone, IsPutOnBoard, oldest_sector}
@@ -23,6 +24,11 @@ pub record StandsOnDisk {R : Type 0} (r : Ghosts R) (sector : ℕ) (bytes : List
   pub stands : r.tells → get_or (r.contents new).disk sector [] ≡ bytes
   pub free : find_in (slots_of is) sector ≡ None
   pub image : r.tells → overlay (r.contents new) ≡ set (overlay (r.contents old)) sector bytes
+
+-- An entry was cleared: its sector is that of the disk.
+pub record IsCleared {R : Type 0} (r : Ghosts R) (index : ℕ) (old new : R) (was is : Cache) : Type 0 where
+  pub became : Becomes index Free was is
+  pub image : r.tells → overlay (r.contents new) ≡ set (overlay (r.contents old)) (sector_of (at (slots_of was) index)) (get_or (r.contents old).disk (sector_of (at (slots_of was) index)) [])
 
 -- A put by state: in UP it stays on the board, and else it goes past it. `from` and `to` are the states before and after, `was` and `is` the entries.
 pub record PutsByState {T E R : Type 0} (r : Ghosts R) (sector : ℕ) (bytes : List ℕ) (from to : State) (was is : Cache) (old new : R) (result : Result T E) : Type 0 where

@@ -5,11 +5,10 @@ ghost use Rattle.stable.specs.Moments.{LeavesOnly};
 ghost use Rattle.rig.specs.Looked.{Stays};
 ghost use Rattle.presto_cache.specs.Board.{PutsOnBoard};
 ghost use Rattle.presto_cache.specs.Slots.{at, sector_of};
-ghost use Rattle.presto_cache.specs.Cache.{slots_of, Becomes, Knows};
-ghost use Rattle.presto_cache.specs.declared.slot.Slot.TheVariants.{Free};
+ghost use Rattle.presto_cache.specs.Cache.{slots_of, Knows};
 ghost use Rattle.presto_unit.specs.Disk.{PutsOneMakingRoom};
 ghost use Rattle.presto_unit.specs.Flushing.{AddsNone, IsDirtyAt};
-ghost use Rattle.presto_unit.specs.Putting.{StandsOnDisk};
+ghost use Rattle.presto_unit.specs.Putting.{IsCleared, StandsOnDisk};
 
 use presto_cache::Cache;
 use rig::{Failed, Rig};
@@ -19,7 +18,7 @@ fn clear_or_put_last<R: Rig>(cache: &mut Cache, rig: &mut R, index: u32) -> Resu
     requires knows { Knows R.Rig rig.old cache.old }
     requires dirty { IsDirtyAt (slots_of cache.old) index }
     ensures knows { Knows R.Rig rig.new cache.new }
-    ensures done { OnOk result (Becomes index Free cache.old cache.new) }
+    ensures done { OnOk result (IsCleared R.Rig index rig.old rig.new cache.old cache.new) }
     ensures adds { AddsNone cache.old cache.new }
     ensures crash { let sector = sector_of (at (slots_of cache.old) index) in
         LeavesOnly R.moment R.left_since rig.old rig.new (PutsOnBoard (R.sizes rig.old) sector (get_or (R.contents rig.old).disk sector []) (R.contents rig.old)) }

@@ -33,6 +33,7 @@ fn keep_now<R: Rig>(
     requires room { place_in (slots_of cache.old) sector ≢ None }
     ensures knows { Knows R.Rig rig.new cache.new }
     ensures done { OnOk result (StandsOnBoard R.Rig sector bytes.now rig.old rig.new cache.old cache.new) }
+    ensures few { length (entries_of cache.new) ≤ length (entries_of cache.old) + 1 }
     ensures crash { (other : ℕ) → PutsOneMakingRoom R.Rig sector other bytes.now rig.old rig.new }
     ensures device { HasDevice (R.faults rig.old) (R.faults rig.new) result }
     ensures stays { StaysOffDisk R.Rig rig.old rig.new }
@@ -58,6 +59,7 @@ fn keep_in_full<R: Rig>(
     requires full { place_in (slots_of cache.old) sector ≡ None }
     ensures knows { Knows R.Rig rig.new cache.new }
     ensures done { OnOk result (StandsOnBoard R.Rig sector bytes.now rig.old rig.new cache.old cache.new) }
+    ensures few { length (entries_of cache.new) ≤ length (entries_of cache.old) + 1 }
     ensures crash { PutsOneMakingRoom R.Rig sector (oldest_sector (entries_of cache.old)) bytes.now rig.old rig.new }
     ensures device { HasDevice (R.faults rig.old) (R.faults rig.new) result }
     ensures stays { Stays R.Rig rig.old rig.new }
@@ -85,6 +87,7 @@ pub fn keep_up<R: Rig>(
     ensures knows { Knows R.Rig rig.new cache.new }
     ensures done { OnOk result (StandsOnBoard R.Rig sector bytes.now rig.old rig.new cache.old cache.new) }
     ensures quiet { place_in (slots_of cache.old) sector ≢ None → R.disk_writes rig.new ≡ R.disk_writes rig.old }
+    ensures few { length (entries_of cache.new) ≤ length (entries_of cache.old) + 1 }
     ensures crash { PutsOneMakingRoom R.Rig sector (oldest_sector (entries_of cache.old)) bytes.now rig.old rig.new }
     ensures device { HasDevice (R.faults rig.old) (R.faults rig.new) result }
     ensures stays { Stays R.Rig rig.old rig.new }
