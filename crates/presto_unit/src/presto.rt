@@ -14,9 +14,7 @@ use crate::up::put_up;
 use presto_cache::Cache;
 use presto_states::{Ring, Track};
 use rig::{Battery, Failed, Rig, SteeredRig};
-use stable::{
-    Answer, Cause, Command, FlushAnswer, Snapshot, Stable, State, SteeredStore, Tended,
-};
+use stable::{Answer, Cause, Command, FlushAnswer, Snapshot, Stable, State, SteeredStore, Tended};
 
 /// A board in front of a disk, as one store. In UP a put stays on the board, where it is safe from a loss of power; in DOWN and in ERROR it goes to the
 /// disk. DOWN holds only where nothing is dirty, and in UP no entry is in doubt.

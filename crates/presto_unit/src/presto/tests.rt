@@ -172,9 +172,18 @@ enum Deed {
 }
 
 const DEEDS: [Deed; 12] = [
-    Deed::PutUp { entries: 2, sector: 10 },
-    Deed::PutUp { entries: 2, sector: 13 },
-    Deed::PutUp { entries: 3, sector: 13 },
+    Deed::PutUp {
+        entries: 2,
+        sector: 10,
+    },
+    Deed::PutUp {
+        entries: 2,
+        sector: 13,
+    },
+    Deed::PutUp {
+        entries: 3,
+        sector: 13,
+    },
     Deed::PutDown,
     Deed::PutInError { sector: 10 },
     Deed::PutInError { sector: 13 },
@@ -315,7 +324,7 @@ fn is_old_or_new(alloc: Global, deed: Deed, rig: &mut MemRig) -> bool {
 
 #[test]
 fn what_fails_or_is_cut_leaves_one_sector_old_or_new(rt: HostRuntime) -> Result<(), Fail> {
-    let mut tried = 0;
+    let mut tried = 0u32;
     for deed in DEEDS {
         let (before, after) = calls(rt.alloc(), deed).ok_or("counting")?;
         assert!(rt; before < after, "{deed:?} makes a device call");
@@ -328,7 +337,7 @@ fn what_fails_or_is_cut_leaves_one_sector_old_or_new(rt: HostRuntime) -> Result<
                     is_old_or_new(rt.alloc(), deed, &mut crashed),
                     "{deed:?}, {trouble:?}"
                 );
-                tried += 1;
+                tried = tried.saturating_add(1);
             }
         }
     }

@@ -70,4 +70,3 @@ returns-in_default-clause-by_state g c =
       crash = weaker put.crash (λ d left p. room_unused _ p);
       only = λ not. put.crash;
     }
-
