@@ -1,0 +1,10 @@
+pub mod Commands
+pub mod Disk
+pub mod Entries
+pub mod Happenings
+pub mod Opening
+pub mod Room
+pub mod Runs
+pub mod Tried
+pub mod Whole
+pub mod Units

@@ -1,0 +1,9 @@
+pub mod Disk
+pub mod Flushing
+pub mod Happenings
+pub mod Images
+pub mod Laws
+pub mod Opening
+pub mod Parts
+pub mod Putting
+pub mod Shown
