@@ -60,4 +60,4 @@ none_set sizes cache d known none i = case (is_entry (get_or (entries d) i 0)) r
   where
     case : (b : Bool) → is_entry (get_or (entries d) i 0) ≡ b → b ≡ false
     case false e = refl
-    case true e = absurd (true≢false (sym (entry_names sizes.buffers known.few (slots_of cache) known.are d known.of i e).dirty ∙ none_dirty cache none i))
+    case true e = absurd (true≢false (sym (entry_names known.are known.of i e).dirty ∙ none_dirty cache none i))

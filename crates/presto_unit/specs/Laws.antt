@@ -39,7 +39,7 @@ overlay_whole sizes slots d known = record {
   size = length-overlay d ∙ known.shape.disk;
   long = λ s lt. ap (λ (b : Bool). length (get_or (if b then laid (entries d) d.buffers d.disk else d.disk) s [])) known.kept
       ∙ laid_long (entries d) d.buffers d.disk
-      (λ i is. (known.shape.each_buffer (entry_buffer (get_or (entries d) i 0)) (known.are.buffers_fit i (entry_buffer (get_or (entries d) i 0)) (entry_names sizes.buffers known.few slots known.are d known.of i is).buffer)).size)
+      (λ i is. (known.shape.each_buffer (entry_buffer (get_or (entries d) i 0)) (known.are.buffers_fit i (entry_buffer (get_or (entries d) i 0)) (entry_names known.are known.of i is).buffer)).size)
       (λ k below. (known.shape.each_sector k (omega (arith, below, known.shape.disk))).size)
       s (let n = length-laid (entries d) d.buffers d.disk in omega (arith, lt, n, known.shape.disk));
 }
