@@ -6,7 +6,7 @@ ghost use Rattle.rig.specs.Looked.{Looked, Stays, StaysOffDisk};
 ghost use Rattle.stable.specs.Moments.{LeavesOnly};
 
 use super::MemRig;
-use crate::change::{change_buffer, change_kept, change_sector, change_word};
+use crate::change::{Change, change_item, change_kept};
 use crate::fault::takes;
 use rig::{Battery, Failed, Rig};
 
@@ -147,7 +147,17 @@ impl Rig for MemRig {
         let Some(takes) = takes(fate) else {
             return Err(Failed);
         };
-        if change_sector(&mut self.disk, &mut self.history, sector, bytes, takes).is_err() {
+        let change = Change::of_sector(&self.disk, sector, bytes);
+        if change_item(
+            &mut self.disk,
+            &mut self.history,
+            change,
+            sector,
+            *bytes,
+            takes,
+        )
+        .is_err()
+        {
             self.trouble.count_fault();
             return Err(Failed);
         }
@@ -185,7 +195,17 @@ impl Rig for MemRig {
         let Some(takes) = takes(fate) else {
             return Err(Failed);
         };
-        if change_word(&mut self.words, &mut self.history, index, word, takes).is_err() {
+        let change = Change::of_word(&self.words, index, word);
+        if change_item(
+            &mut self.words,
+            &mut self.history,
+            change,
+            index,
+            word,
+            takes,
+        )
+        .is_err()
+        {
             self.trouble.count_fault();
             return Err(Failed);
         }
@@ -223,7 +243,17 @@ impl Rig for MemRig {
         let Some(takes) = takes(fate) else {
             return Err(Failed);
         };
-        if change_buffer(&mut self.buffers, &mut self.history, index, bytes, takes).is_err() {
+        let change = Change::of_buffer(&self.buffers, index);
+        if change_item(
+            &mut self.buffers,
+            &mut self.history,
+            change,
+            index,
+            *bytes,
+            takes,
+        )
+        .is_err()
+        {
             self.trouble.count_fault();
             return Err(Failed);
         }
