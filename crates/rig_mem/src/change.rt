@@ -64,24 +64,26 @@ impl Change {
     }
 }
 
-// Puts another item in a place if `takes`, and records the change either way.
-pub fn change_item<T: Copy>(
-    items: &mut Vec<T>,
-    history: &mut History,
-    change: Change,
-    index: u32,
-    item: T,
-    takes: bool,
-) -> Result<(), Failed>
-    requires { index < length items.old.items }
-    ensures recorded { IsRecorded change result history.old history.new }
-    ensures items { IsTaken takes result items.old.items (set items.old.items index item) items.new.items }
-{
-    history.keep(change)?;
-    if takes {
-        items[index as usize] = item;
+impl History {
+    // Puts another item in a place if `takes`, and keeps the change either way.
+    pub fn put<T: Copy>(
+        &mut self,
+        items: &mut Vec<T>,
+        change: Change,
+        index: u32,
+        item: T,
+        takes: bool,
+    ) -> Result<(), Failed>
+        requires { index < length items.old.items }
+        ensures recorded { IsRecorded change result self.old self.new }
+        ensures items { IsTaken takes result items.old.items (set items.old.items index item) items.new.items }
+    {
+        self.keep(change)?;
+        if takes {
+            items[index as usize] = item;
+        }
+        Ok(())
     }
-    Ok(())
 }
 
 // Marks the board's memory as kept if `takes`, and records it either way.

@@ -6,7 +6,7 @@ ghost use Rattle.rig.specs.Looked.{Looked, Stays, StaysOffDisk};
 ghost use Rattle.stable.specs.Moments.{LeavesOnly};
 
 use super::MemRig;
-use crate::change::{Change, change_item, change_kept};
+use crate::change::{Change, change_kept};
 use crate::fault::takes;
 use rig::{Battery, Failed, Rig};
 
@@ -148,16 +148,10 @@ impl Rig for MemRig {
             return Err(Failed);
         };
         let change = Change::of_sector(&self.disk, sector, bytes);
-        if change_item(
-            &mut self.disk,
-            &mut self.history,
-            change,
-            sector,
-            *bytes,
-            takes,
-        )
-        .is_err()
-        {
+        let kept = self
+            .history
+            .put(&mut self.disk, change, sector, *bytes, takes);
+        if kept.is_err() {
             self.trouble.count_fault();
             return Err(Failed);
         }
@@ -196,16 +190,10 @@ impl Rig for MemRig {
             return Err(Failed);
         };
         let change = Change::of_word(&self.words, index, word);
-        if change_item(
-            &mut self.words,
-            &mut self.history,
-            change,
-            index,
-            word,
-            takes,
-        )
-        .is_err()
-        {
+        let kept = self
+            .history
+            .put(&mut self.words, change, index, word, takes);
+        if kept.is_err() {
             self.trouble.count_fault();
             return Err(Failed);
         }
@@ -244,16 +232,10 @@ impl Rig for MemRig {
             return Err(Failed);
         };
         let change = Change::of_buffer(&self.buffers, index);
-        if change_item(
-            &mut self.buffers,
-            &mut self.history,
-            change,
-            index,
-            *bytes,
-            takes,
-        )
-        .is_err()
-        {
+        let kept = self
+            .history
+            .put(&mut self.buffers, change, index, *bytes, takes);
+        if kept.is_err() {
             self.trouble.count_fault();
             return Err(Failed);
         }
