@@ -286,7 +286,7 @@ fn a_link_hands_over_its_events_and_keeps_what_is_sent(rt: HostRuntime) -> Resul
     assert_eq!(rt; link.sent().len(), 1);
     if let Some(sent) = link.sent().first() {
         assert_eq!(rt; sent.to, HOME);
-        assert_eq!(rt; sent.bytes.list(), b"ok".as_slice());
+        assert_eq!(rt; sent.bytes.bytes(), b"ok".as_slice());
     }
     Ok(())
 }
