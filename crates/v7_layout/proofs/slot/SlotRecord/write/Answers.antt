@@ -2,7 +2,7 @@ use Rattle.std.proofs.Common.{◌≡◌, ℕ, ◌+◌, List, ◌++◌, length, t
 use Rattle.v7_layout.specs.Written.{slot_bytes}
 use Rattle.v7_layout.proofs.Back.{whole}
 use Rattle.v7_layout.proofs.RoundTrip.{slot-reads_back}
-use Rattle.v7_layout.proofs.slot.Slot.write.Goals as goal
+use Rattle.v7_layout.proofs.slot.SlotRecord.write.Goals as goal
 
 pub returns-clause-bytes : goal.returns-clause-bytes
 unfolding slot_bytes

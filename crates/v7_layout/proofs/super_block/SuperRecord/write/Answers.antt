@@ -3,7 +3,7 @@ use Rattle.v7_layout.specs.Numbers.{zeros}
 use Rattle.v7_layout.specs.Written.{super_bytes}
 use Rattle.v7_layout.proofs.Back.{grow}
 use Rattle.v7_layout.proofs.RoundTrip.{super-reads_back}
-use Rattle.v7_layout.proofs.super_block.Super.write.Goals as goal
+use Rattle.v7_layout.proofs.super_block.SuperRecord.write.Goals as goal
 
 pub returns-clause-bytes : goal.returns-clause-bytes
 unfolding super_bytes
