@@ -1,6 +1,6 @@
 // The records of worked volumes, against bytes that were written out by hand.
 
-use crate::{Chain, Inode, Slot, Super};
+use crate::{Chain, Inode, Record, Slot, Super};
 use std::test::Fail;
 
 #[test]

@@ -2,7 +2,7 @@ use Rattle.std.proofs.Common.{◌≡◌, ℕ, ◌+◌, List, ◌++◌, length, t
 use Rattle.v7_layout.specs.Written.{slot_bytes}
 use Rattle.v7_layout.proofs.Back.{whole}
 use Rattle.v7_layout.proofs.RoundTrip.{slot-reads_back}
-use Rattle.v7_layout.proofs.slot.Slot.write.Goals as goal
+use Rattle.v7_layout.proofs.slot.SlotRecord.write.Goals as goal
 
 pub returns-clause-bytes : goal.returns-clause-bytes
 unfolding slot_bytes
@@ -11,7 +11,7 @@ returns-clause-bytes c =
     whole 16 c.put_bytes.new.bytes (slot_bytes c.args.self.now) (omega arith)
     (ap (λ (n : ℕ). take n c.put_bytes.new.bytes) (sym end)
     ∙ c.put_bytes.ensures.front
-    ∙ ap (λ (l : List ℕ). l ++ c.args.self.now.name) c.put_short.ensures.front)
+    ∙ ap (λ (l : List ℕ). l ++ c.args.self.now.name) c.put_short.ensures.put.front)
 
 pub returns-clause-reads_back : goal.returns-clause-reads_back
 returns-clause-reads_back c =

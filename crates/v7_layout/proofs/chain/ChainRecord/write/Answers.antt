@@ -2,7 +2,7 @@ use Rattle.std.proofs.Common.{◌≡◌, ◌-◌, length, ap, arith}
 use Rattle.v7_layout.specs.Numbers.{zeros}
 use Rattle.v7_layout.specs.Written.{chain_bytes}
 use Rattle.v7_layout.proofs.RoundTrip.{chain-reads_back}
-use Rattle.v7_layout.proofs.chain.Chain.write.Goals as goal
+use Rattle.v7_layout.proofs.chain.ChainRecord.write.Goals as goal
 
 pub returns-clause-bytes : goal.returns-clause-bytes
 unfolding chain_bytes

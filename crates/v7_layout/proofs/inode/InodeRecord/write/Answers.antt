@@ -2,7 +2,7 @@ use Rattle.std.proofs.Common.{arith}
 use Rattle.v7_layout.specs.Written.{inode_bytes}
 use Rattle.v7_layout.proofs.Back.{whole}
 use Rattle.v7_layout.proofs.RoundTrip.{inode-reads_back}
-use Rattle.v7_layout.proofs.inode.Inode.write.Goals as goal
+use Rattle.v7_layout.proofs.inode.InodeRecord.write.Goals as goal
 
 pub returns-clause-bytes : goal.returns-clause-bytes
 unfolding inode_bytes
@@ -23,4 +23,4 @@ returns-clause-reads_back c =
       mtime = c.put_long-4.ensures.fits;
       ctime = c.put_long-5.ensures.fits;
     })
-    c.requires.addresses
+    c.requires.fitting
