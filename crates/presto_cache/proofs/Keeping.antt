@@ -1,5 +1,5 @@
 -- What `keep` has found before it stores: the sector's entry, and a buffer for it.
-use Rattle.std.proofs.Common.{◌≡◌, ◌⊎◌, ℕ, ◌<◌, ◌^◌, Some, List, set, sym, subst}
+use Rattle.std.proofs.Common.{◌≡◌, ◌⊎◌, ℕ, ◌<◌, ◌^◌, Some, set, sym, subst}
 use Rattle.rig.specs.declared.rig.Rig.{Ghosts}
 use Rattle.presto_cache.specs.Slots.{AreSlots, NoDoubt, IsLowestUnused, at, place_in}
 use Rattle.presto_cache.specs.Stores.{IsFill}

@@ -1,11 +1,9 @@
 -- The order lists each dirty entry once.
-use Rattle.std.proofs.Common.{◌≡◌, ◌≢◌, ◌⊎◌, inl, inr, ⊎_elim, ℕ, zero, suc, ◌+◌, ◌-◌, ◌<◌, ◌≤◌, Bool, true, false, not, cond, ◌||◌, if◌then◌else◌, nat_eq, nat_lt, Some, None, List, [], ◌∷◌, ◌++◌, map, length, get_or, set, take, refl, sym, ◌∙◌, ap, subst, arith, length-append}
-use Rattle.std.specs.List.{position, position_or_len, remove, IsDistinct, AllByRecursion, list_any}
-use Rattle.std.proofs.lemmas.Bool.{eqb-true, eqb-false, eq-eqb, ltb-true, ltb-false, true≢false}
-use Rattle.std.proofs.lemmas.List.{take_all, drop_all, append-nil, length-set, length-take, get_or_past, get_or_append_left, get_or_at}
+use Rattle.std.proofs.Common.{◌≡◌, ◌≢◌, ◌⊎◌, inl, inr, ⊎_elim, ℕ, zero, suc, ◌+◌, ◌-◌, ◌<◌, ◌≤◌, Bool, true, false, ◌||◌, if◌then◌else◌, nat_eq, Some, List, [], ◌∷◌, ◌++◌, map, length, get_or, set, take, refl, sym, ◌∙◌, ap, subst, arith, length-append}
+use Rattle.std.proofs.lemmas.Bool.{eqb-true, eqb-false, eq-eqb, ltb-true, ltb-false}
+use Rattle.std.proofs.lemmas.List.{length-take, get_or_past, get_or_append_left, get_or_at}
 use Rattle.std.proofs.Math.Seq.{take-suc}
 use Rattle.std.specs.List.Sorted.{IsStrictlyIncreasing}
-use Rattle.std.proofs.lemmas.Map.Steps.{length-le_from_distinct_below}
 use Rattle.std.proofs.lemmas.Option.{none-some}
 use Rattle.std.proofs.Math.Dec.{eqb, ltb}
 use Rattle.index_sets.specs.Queue.{is_listed}
@@ -13,8 +11,8 @@ use Rattle.presto_cache.specs.Slots.{at, is_dirty}
 use Rattle.presto_cache.specs.Order.{times, IsOrderOf, without, followed, first_of}
 use Rattle.presto_cache.specs.Entries.{Entry, entry_in, entries_in, with_entry, without_entry, oldest_in, changed}
 use Rattle.presto_cache.specs.declared.slot.Slot.{Slot}
-use Rattle.presto_cache.specs.declared.slot.Slot.TheVariants.{Free, Set}
-use Rattle.presto_cache.proofs.Slots.{at_set, or_cases}
+use Rattle.presto_cache.specs.declared.slot.Slot.TheVariants.{Free}
+use Rattle.presto_cache.proofs.Slots.{at_set}
 
 -- the index at the head is that one, or another
 pub by_head : {P : Type 0} (x k : ℕ) → (x ≡ k → P) → (x ≢ k → P) → P
@@ -101,44 +99,8 @@ moved_ordered slots order i dirty is k = by_head k i
     ∙ sym (ap (λ n. if is_dirty (at slots n) then 1 else 0) e ∙ ap (λ b. if b then 1 else 0) dirty))
     (λ ne. times_last_other k i (without i order) ne ∙ times_without_other k i order ne ∙ is k)
 
--- no more entries are listed than there are
-apart : (x : ℕ) (xs : List ℕ) → times x xs ≡ 0 → AllByRecursion (λ y. eqb x y ≡ false) xs
-apart x [] h = tt
-apart x (y ∷ ys) h = by_head y x
-    (λ e. let t = times_here y x ys e in absurd (omega (arith, t, h)))
-    (λ ne. (nat_eq_other x y (λ e. ne (sym e)), apart x ys (sym (times_there y x ys ne) ∙ h)))
-
 times_more : (k x : ℕ) (xs : List ℕ) → times k xs ≤ times k (x ∷ xs)
 times_more k x xs = by_head x k (λ e. let t = times_here x k xs e in omega (arith, t)) (λ ne. let t = times_there x k xs ne in omega (arith, t))
-
-once : (xs : List ℕ) → ((k : ℕ) → times k xs ≤ 1) → IsDistinct eqb xs
-unfolding IsDistinct
-once [] h = tt
-once (x ∷ xs) h = (apart x xs (let t = times_here x x xs refl in let m = h x in omega (arith, t, m)), once xs (λ k. let m = h k in let n = times_more k x xs in omega (arith, m, n)))
-
-listed_times : (q : ℕ) (xs : List ℕ) → list_any (eqb q) xs ≡ true → 1 ≤ times q xs
-listed_times q [] h = absurd (true≢false (sym h))
-listed_times q (x ∷ xs) h = ⊎_elim
-    (λ here. let t = times_here x q xs (sym (eqb-true q x here)) in omega (arith, t))
-    (λ there. let m = times_more q x xs in let n = listed_times q xs there in omega (arith, m, n))
-    (or_cases (eqb q x) (list_any (eqb q) xs) h)
-
-if_one : (b : Bool) → (if b then 1 else 0) ≤ 1
-if_one true = omega arith
-if_one false = omega arith
-
-pub order_fits : (slots : List Slot) (order : List ℕ) → IsOrderOf slots order → length order ≤ length slots
-order_fits slots order is = length-le_from_distinct_below order (length slots) (once order (λ k. let t = is k in let b = if_one (is_dirty (at slots k)) in omega (arith, t, b))) below
-  where
-    below : (q : ℕ) → list_any (eqb q) order ≡ true → q < length slots
-    below q h = case (ltb q (length slots)) refl
-      where
-        case : (b : Bool) → ltb q (length slots) ≡ b → q < length slots
-        case true lt = ltb-true q (length slots) lt
-        case false ge =
-            let none = is q ∙ ap (λ s. if is_dirty s then 1 else 0) (get_or_past slots q Free (ltb-false q (length slots) ge)) in
-            let some = listed_times q order h in
-            absurd (omega (arith, none, some))
 
 pub length_without : (k : ℕ) (xs : List ℕ) → 1 ≤ times k xs → length (without k xs) + 1 ≡ length xs
 length_without k [] h = absurd (omega (arith, h))
