@@ -49,11 +49,11 @@ fn keep_in_full<R: Rig>(
     sector: u32,
     bytes: &[u8; 512],
 ) -> Result<(), Cause>
+    requires full { place_in (slots_of cache.old) sector ≡ None }
     requires knows { Knows R.Rig rig.old cache.old }
     requires sector { sector < (R.sizes rig.old).sectors }
     requires board { 0 < (R.sizes rig.old).buffers }
     requires sure { NoDoubt (slots_of cache.old) }
-    requires full { place_in (slots_of cache.old) sector ≡ None }
     ensures kept { KeptUp R.Rig sector bytes.now rig.old rig.new cache.old cache.new result }
     ensures crash { PutsOneMakingRoom R.Rig sector (oldest_sector (entries_of cache.old)) bytes.now rig.old rig.new }
     ensures stays { Stays R.Rig rig.old rig.new }

@@ -54,7 +54,7 @@ returns-clause-kept g c =
         sure = done.sure;
         image = λ tells. done.image tells ∙ ap (λ (l : List (List ℕ)). set l c.args.sector c.args.bytes.now) ((ends law.clocked c.flush_oldest.ensures.crash tells).keeps.image _ (inl refl));
       })
-      c.keep_now.result kept.done;
+          c.keep_now.result kept.done;
       few = omega (arith, few, kept.few);
       device = search rules;
     }
