@@ -1,17 +1,20 @@
 -- At each moment of an opening.
 use Rattle.std.proofs.Common.{◌≡◌, ◌⊎◌, inl, inr, ⊎_elim, Bool, false, true, List, ℕ, [], refl, sym, ◌∙◌, ap, subst, arith}
+use Rattle.std.proofs.lemmas.Bool.{true≢false}
 use Rattle.stable.specs.Moments.{IsClocked, LeavesOnly}
 use Rattle.stable.proofs.Clocked.{weaker, goes_on, ends}
 use Rattle.rig.specs.Devices.{Devices, Sizes, with_kept}
 use Rattle.rig.specs.declared.rig.Rig.{Ghosts}
 use Rattle.nvram_map.specs.Formats.{formatted}
-use Rattle.nvram_map.specs.Overlay.{overlay, SoundlyLeaves}
+use Rattle.nvram_map.specs.Overlay.{overlay, NoEntry, SoundlyLeaves}
+use Rattle.nvram_map.specs.Words.{IsBoardOf}
 use Rattle.nvram_map.proofs.Overlaid.{bare, sound_overlay}
 use Rattle.presto_cache.specs.Board.{Keeps}
 use Rattle.presto_cache.proofs.Puts.{kept_puts}
 use Rattle.presto_unit.specs.Opening.{IsNamed, IsOpenable, title_of}
 use Rattle.presto_unit.specs.Disk.{FlushesAll}
 use Rattle.presto_unit.proofs.Opening.{put_open, sound_open}
+use Rattle.presto_recover.specs.Opened.{IsBegunAnew}
 use Rattle.presto_recover.specs.Recovering.{MayBeFormatted, OnlyFormats, Recovers}
 use Rattle.presto_recover.specs.Refused.{name_bytes}
 use Rattle.presto_recover.proofs.Emptied.{formatted_board, formatted_stays, marked_overlay}
@@ -68,6 +71,18 @@ recovers_more sizes old mid d so_far more = record {
 -- an opening that a sound crash cut is begun again, and finds the same overlay; what could be opened still can
 pub begun_again : (sizes : Sizes) (old d found : Devices) → Recovers sizes old d → SoundlyLeaves d found → (overlay found ≡ overlay old) × (IsOpenable sizes old → IsOpenable sizes found)
 begun_again sizes old d found cut crash = (cut.image found crash, λ was. sound_open sizes d found crash (cut.opens was))
+
+-- a lost board, once it has no entry and is marked as kept
+pub begun_anew : (sizes : Sizes) (found now : Devices) → (sizes.buffers ≡ 0 → found.kept ≡ true) → found.kept ≡ false → now.kept ≡ true → NoEntry now → Recovers sizes found now → IsBegunAnew sizes found now
+begun_anew sizes found now some lost kept empty recovers = case (recovers.opens (inr (inl lost)))
+  where
+    disk : now.disk ≡ found.disk
+    disk = sym (bare now (inr empty)) ∙ recovers.image now (inl refl) ∙ bare found (inl lost)
+
+    case : IsOpenable sizes now → IsBegunAnew sizes found now
+    case (inl none) = absurd (true≢false (sym (some none) ∙ lost))
+    case (inr (inl gone)) = absurd (true≢false (sym kept ∙ gone))
+    case (inr (inr named)) = record { board_is = subst (λ (n : ℕ). IsBoardOf sizes n now) (ap title_of disk) named.board; empty = empty; kept = kept; disk = disk }
 
 module _ {R : Type 0} (r : Ghosts R) where
   pub formats_recover : (accepted : Bool) {old new : R} → OnlyFormats r accepted old new → LeavesOnly r.moment r.left_since old new (Recovers (r.sizes old) (r.contents old))

@@ -11,3 +11,6 @@ mod title;
 pub use fault::OpenFault;
 pub use opening::open;
 pub use parts::Opened;
+
+#[cfg(test)]
+mod tests;
