@@ -46,12 +46,12 @@ module _ (sizes : Sizes) (old d : Devices) (s : ℕ) (x : List ℕ) (put : PutsO
           (λ new. ap (λ l. name_in (get_or l 1 [])) new ∙ ⊎_elim (λ other. ap name_in other) (λ this. ap name_in this.1 ∙ keeps (sym this.0)) (get_or_set (overlay old) s x 1))
           (put.image d (inl refl))
 
-  put_open : old.kept ≡ true → IsOpenable sizes old → IsOpenable sizes d
+  pub put_open : old.kept ≡ true → IsOpenable sizes old → IsOpenable sizes d
   put_open kept (inl none) = inl none
   put_open kept (inr (inl lost)) = absurd (true≢false (sym kept ∙ lost))
   put_open kept (inr (inr was)) = inr (inr (named was))
 
-sound_open : (sizes : Sizes) (d after : Devices) → SoundlyLeaves d after → IsOpenable sizes d → IsOpenable sizes after
+pub sound_open : (sizes : Sizes) (d after : Devices) → SoundlyLeaves d after → IsOpenable sizes d → IsOpenable sizes after
 sound_open sizes d after (inl same) was = subst (λ (e : Devices). IsOpenable sizes e) (sym same) was
 sound_open sizes d after (inr lost) was = inr (inl lost.1.kept)
 
@@ -78,7 +78,7 @@ module _ {R : Type 0} (r : Ghosts R) (clocked : IsClocked r.tells r.contents r.m
       (run.before t d le left))
 
   -- what stands on a rig shows overlays
-  overlays_run : {P : Devices → Type 0} (Q : Image → Type 0) → LeavesOnly r.moment r.left_since old new P → ((d : Devices) (i : Image) → P d → ShowsOverlay d i → Q i)
+  pub overlays_run : {P : Devices → Type 0} (Q : Image → Type 0) → LeavesOnly r.moment r.left_since old new P → ((d : Devices) (i : Image) → P d → ShowsOverlay d i → Q i)
       → LeavesOnly r.moment (overlays_since r.sizes r.left_since) old new Q
   overlays_run Q run here = record {
     later = run.later;

@@ -1,0 +1,6 @@
+mod Counted
+mod Emptied
+mod Formatting
+mod Reasons
+pub mod Recovering
+pub mod Shown

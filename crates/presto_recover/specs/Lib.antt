@@ -1,0 +1,4 @@
+pub mod Boards
+pub mod Opened
+pub mod Recovering
+pub mod Refused
