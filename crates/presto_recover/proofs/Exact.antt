@@ -1,6 +1,6 @@
 -- Each refusal but Failed and NoMemory rules out that the board is accepted, and each other refusal.
-use Rattle.std.proofs.Common.{◌≡◌, ◌≢◌, ◌⊎◌, ◌∙◌, ◌<◌, inl, inr, ⊎_elim, ℕ, Bool, true, false, List, Err, get_or, refl, sym, ap, arith}
-use Rattle.std.proofs.lemmas.Bool.{true≢false, cases_lt}
+use Rattle.std.proofs.Common.{◌≡◌, ◌⊎◌, ◌∙◌, ◌<◌, ◌≤◌, inl, inr, ⊎_elim, ℕ, Bool, true, false, List, Err, get_or, refl, sym, ap, arith}
+use Rattle.std.proofs.lemmas.Bool.{true≢false, cases_lt, cases_Bool}
 use Rattle.rig.specs.Devices.{Devices, Sizes}
 use Rattle.rig.specs.declared.rig.Rig.{Ghosts}
 use Rattle.nvram_map.specs.Boards.{IsTold}
@@ -8,7 +8,7 @@ use Rattle.nvram_map.specs.Overlay.{entries}
 use Rattle.nvram_map.specs.Words.{AreEntries, IsGood, IsFirstBad}
 use Rattle.nvram_map.specs.declared.fault.BoardFault.{BoardFault}
 use Rattle.nvram_map.specs.declared.fault.BoardFault.TheVariants as board
-use Rattle.presto_unit.specs.Opening.{IsNamed}
+use Rattle.presto_unit.specs.Opening.{IsNamed, IsOpenable}
 use Rattle.presto_recover.specs.Boards.{IsAccepted}
 use Rattle.presto_recover.specs.Refused.{IsReason, IsBoardRefused, HasOtherName, HasTwoNames, name_bytes}
 use Rattle.presto_recover.specs.declared.fault.OpenFault.{OpenFault}
@@ -119,6 +119,26 @@ module _ {R : Type 0} (r : Ghosts R) (accepted : Bool) (found : R) (tells : r.te
       stands.loss
   refused_not_accepted told back lost fault.Failed why stands = inl refl
   refused_not_accepted told back lost fault.NoMemory why stands = inr refl
+
+  -- nor is what can be opened, but for a loss that isn't accepted
+  pub openable_not_refused : (told : (rig : R) → r.tells → (r.contents rig).kept ≡ r.is_kept rig) (back : R) (why : OpenFault) → 2 ≤ (r.sizes found).sectors → (accepted ≡ true) ⊎ (r.is_kept found ≡ true)
+      → IsOpenable (r.sizes found) (r.contents found) → IsReason r accepted found back why → IsShort why
+  openable_not_refused told back why some stands opens reason = case opens (cases_Bool (r.is_kept found))
+    where
+      accept : (lost : Bool) → IsAccepted (r.sizes found) accepted (r.contents found) lost → IsShort why
+      accept lost is = refused_not_accepted told back lost why reason is
+
+      kept_asked : r.is_kept found ≡ false → accepted ≡ true
+      kept_asked gone = ⊎_elim (λ asked. asked) (λ kept. absurd (true≢false (sym kept ∙ gone))) stands
+
+      gone_or_named : (r.is_kept found ≡ true → (r.sizes found).buffers ≡ 0 ⊎ IsNamed (r.sizes found) (r.contents found)) → (r.is_kept found ≡ true) ⊎ (r.is_kept found ≡ false) → IsShort why
+      gone_or_named named (inl kept) = accept false record { sectors = some; loss = inr (refl, told found tells ∙ kept); named = λ _. named kept }
+      gone_or_named named (inr gone) = accept true record { sectors = some; loss = inl (refl, told found tells ∙ gone, kept_asked gone); named = λ lost. absurd (true≢false lost) }
+
+      case : IsOpenable (r.sizes found) (r.contents found) → (r.is_kept found ≡ true) ⊎ (r.is_kept found ≡ false) → IsShort why
+      case (inl none) either = gone_or_named (λ kept. inl none) either
+      case (inr (inl lost)) either = gone_or_named (λ kept. absurd (true≢false (sym kept ∙ sym (told found tells) ∙ lost))) either
+      case (inr (inr named)) either = gone_or_named (λ kept. inr named) either
 
   -- and there is one reason
   pub one_reason : (back back2 : R) (why other : OpenFault) → IsReason r accepted found back why → IsReason r accepted found back2 other → (why ≡ other) ⊎ IsShort why ⊎ IsShort other
