@@ -1,5 +1,5 @@
 -- Calls that change nothing but a lost board, one after the other.
-use Rattle.std.proofs.Common.{◌≡◌, ◌≤◌, ◌∙◌, inl, inr, ⊎_elim, ℕ, Bool, true, false, List, refl, sym, ap, subst, arith}
+use Rattle.std.proofs.Common.{◌≡◌, ◌≤◌, ◌∙◌, inl, inr, ⊎_elim, ℕ, Bool, true, false, List, refl, ap, subst, arith}
 use Rattle.stable.specs.Moments.{IsClocked, LeavesOnly}
 use Rattle.stable.proofs.Clocked.{weaker, goes_on, idles}
 use Rattle.rig.specs.Devices.{Devices, KeptOldOrTrue, with_kept}

@@ -1,5 +1,6 @@
 mod Counted
 mod Emptied
+pub mod Exact
 mod Formatting
 mod Reasons
 pub mod Recovering

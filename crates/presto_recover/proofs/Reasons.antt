@@ -1,5 +1,5 @@
 -- Why a unit isn't opened, told of an earlier rig; and what is accepted.
-use Rattle.std.proofs.Common.{◌≡◌, ◌⊎◌, ◌≤◌, inl, inr, ⊎_elim, ℕ, Bool, List, ◌∙◌, sym, ap, subst, arith}
+use Rattle.std.proofs.Common.{◌≡◌, ◌⊎◌, ◌≤◌, inl, inr, ℕ, Bool, ◌∙◌, sym, ap, subst, arith}
 use Rattle.rig.specs.Devices.{Devices, Sizes}
 use Rattle.rig.specs.declared.rig.Rig.{Ghosts}
 use Rattle.nvram_map.specs.Overlay.{overlay}

@@ -1,5 +1,5 @@
 -- At each moment of an opening.
-use Rattle.std.proofs.Common.{◌≡◌, ◌⊎◌, inl, inr, ⊎_elim, Bool, false, true, List, ℕ, [], refl, sym, ◌∙◌, ap, subst, arith}
+use Rattle.std.proofs.Common.{◌≡◌, inl, inr, ⊎_elim, Bool, false, true, ℕ, [], refl, sym, ◌∙◌, ap, subst, arith}
 use Rattle.std.proofs.lemmas.Bool.{true≢false}
 use Rattle.stable.specs.Moments.{IsClocked, LeavesOnly}
 use Rattle.stable.proofs.Clocked.{weaker, goes_on, ends}
@@ -14,6 +14,7 @@ use Rattle.presto_cache.proofs.Puts.{kept_puts}
 use Rattle.presto_unit.specs.Opening.{IsNamed, IsOpenable, title_of}
 use Rattle.presto_unit.specs.Disk.{FlushesAll}
 use Rattle.presto_unit.proofs.Opening.{put_open, sound_open}
+use Rattle.presto_recover.specs.Boards.{IsAccepted}
 use Rattle.presto_recover.specs.Opened.{IsBegunAnew}
 use Rattle.presto_recover.specs.Recovering.{MayBeFormatted, OnlyFormats, Recovers}
 use Rattle.presto_recover.specs.Refused.{name_bytes}
@@ -71,6 +72,10 @@ recovers_more sizes old mid d so_far more = record {
 -- an opening that a sound crash cut is begun again, and finds the same overlay; what could be opened still can
 pub begun_again : (sizes : Sizes) (old d found : Devices) → Recovers sizes old d → SoundlyLeaves d found → (overlay found ≡ overlay old) × (IsOpenable sizes old → IsOpenable sizes found)
 begun_again sizes old d found cut crash = (cut.image found crash, λ was. sound_open sizes d found crash (cut.opens was))
+
+-- what is accepted could be opened before
+pub accepted_opens : (sizes : Sizes) (accepted : Bool) (d : Devices) (lost : Bool) → IsAccepted sizes accepted d lost → IsOpenable sizes d
+accepted_opens sizes accepted d lost is = ⊎_elim (λ gone. inr (inl gone.1)) (λ here. ⊎_elim (λ none. inl none) (λ named. inr (inr named)) (is.named here.0)) is.loss
 
 -- a lost board, once it has no entry and is marked as kept
 pub begun_anew : (sizes : Sizes) (found now : Devices) → (sizes.buffers ≡ 0 → found.kept ≡ true) → found.kept ≡ false → now.kept ≡ true → NoEntry now → Recovers sizes found now → IsBegunAnew sizes found now

@@ -1,5 +1,5 @@
 -- The board that was found, and the cache of its entries. `r` is what the rig's type tells, as `R.Rig` in a clause.
-use Rattle.std.specs.Prelude.{◌≡◌, ◌⊎◌, ◌≤◌, ℕ, Bool, true, false, List, [], length, if◌then◌else◌}
+use Rattle.std.specs.Prelude.{◌≡◌, ◌⊎◌, ◌≤◌, Bool, true, false, List, [], length, if◌then◌else◌}
 use Rattle.rig.specs.Devices.{Devices, Sizes}
 use Rattle.rig.specs.declared.rig.Rig.{Ghosts}
 use Rattle.nvram_map.specs.Boards.{FitBoard, entries_from}

@@ -1,5 +1,5 @@
 -- A unit was opened.
-use Rattle.std.specs.Prelude.{◌≡◌, ◌+◌, ℕ, Bool, true, List, [], Option, None, Some}
+use Rattle.std.specs.Prelude.{◌≡◌, ◌+◌, ℕ, Bool, true, [], Option, None, Some}
 use Rattle.stable.specs.Moments.{LeavesOnly}
 use Rattle.stable.specs.declared.state.Cause.{Cause}
 use Rattle.stable.specs.declared.state.State.{State}

@@ -1,5 +1,5 @@
 -- What opening a unit leaves of the devices at each moment. `r` is what the rig's type tells, as `R.Rig` in a clause.
-use Rattle.std.specs.Prelude.{◌≡◌, ◌⊎◌, ◌≤◌, ℕ, Bool, true, false}
+use Rattle.std.specs.Prelude.{◌≡◌, ◌⊎◌, ◌≤◌, Bool, true, false}
 use Rattle.stable.specs.Moments.{LeavesOnly}
 use Rattle.rig.specs.Devices.{Devices, Sizes, with_kept}
 use Rattle.rig.specs.declared.rig.Rig.{Ghosts}

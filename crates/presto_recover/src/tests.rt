@@ -79,13 +79,21 @@ fn put<S: Stable>(store: &mut S, sector: u32, byte: u8) -> bool {
     sector < store.sectors() && store.put(sector, &[byte; 512]).is_ok()
 }
 
+// A word of the board, where it has it.
+fn word_at(rig: &mut MemRig, index: u32) -> Option<u64> {
+    if index >= rig.words() {
+        return None;
+    }
+    rig.load_word(index).ok()
+}
+
 // Whether disks and words are the same.
 fn same(one: &mut MemRig, other: &mut MemRig) -> bool {
     if one.disk() != other.disk() || one.words() != other.words() {
         return false;
     }
     for index in 0..one.words() {
-        if one.load_word(index) != other.load_word(index) {
+        if word_at(one, index) != word_at(other, index) {
             return false;
         }
     }

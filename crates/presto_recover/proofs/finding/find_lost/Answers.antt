@@ -1,13 +1,11 @@
-use Rattle.std.proofs.Common.{◌∙◌, ◌<◌, ℕ, List, [], inl, inr, refl, sym, ap, subst, arith}
+use Rattle.std.proofs.Common.{ℕ, List, [], inl, inr, refl, sym, ap, subst, arith}
 use Rattle.std.proofs.lemmas.Bool.{true≢false}
-use Rattle.rig.specs.Devices.{Devices, Sizes, HasShape, with_kept}
+use Rattle.rig.specs.Devices.{Devices, Sizes, HasShape}
 use Rattle.nvram_map.specs.Boards.{FitBoard}
-use Rattle.nvram_map.specs.Formats.{formatted}
 use Rattle.nvram_map.specs.Words.{name_word, IsBoardOf}
 use Rattle.nvram_map.specs.declared.board.BoardEntry.{BoardEntry}
 use Rattle.nvram_map.proofs.Shapes.{shape_now}
 use Rattle.presto_cache.specs.Made.{AreReadFrom}
-use Rattle.presto_unit.specs.Opening.{title_of}
 use Rattle.presto_recover.proofs.Emptied.{fit_none, formatted_board, formatted_read}
 use Rattle.presto_recover.proofs.finding.find_lost.Goals as goal
 

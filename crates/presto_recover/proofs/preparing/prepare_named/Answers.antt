@@ -1,5 +1,4 @@
-use Rattle.std.proofs.Common.{◌≡◌, ◌∙◌, Bool, List, length, ap, sym, subst, ⊎_elim, arith, rules}
-use Rattle.rig.specs.Devices.{Devices}
+use Rattle.std.proofs.Common.{◌≡◌, ◌∙◌, Bool, List, length, ap, sym, subst, ⊎_elim, rules}
 use Rattle.nvram_map.specs.declared.board.BoardEntry.{BoardEntry}
 use Rattle.presto_cache.specs.Cache.{slots_of, Knows}
 use Rattle.presto_cache.specs.Made.{IsMadeOf}
