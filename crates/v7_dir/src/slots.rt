@@ -46,8 +46,9 @@ fn is_empty(slots: &[u8], k: usize) -> bool
     Slot::read(slot_bytes(slots, k)).ino == 0
 }
 
-/// The number of the first slot that isn't empty and has this name (filsys(5); RFC 1094 2.3.8, filename). Slots are counted from 0, 16 bytes each;
-/// a rest of fewer bytes is no slot.
+/// The number of the first slot that isn't empty and has this name (filsys(5); RFC 1094 2.3.8, filename). Slots are counted from 0, 16 bytes each,
+/// and there are at most 2^32; a rest of fewer bytes is no slot.
+#[tactic(auto, using(crate::proofs::Firsts::first_slot, crate::proofs::Firsts::no_slot))]
 pub fn find(slots: &[u8], name: &Name) -> Option<u32>
     requires { length slots.now / 16 ≤ 2 ^ 32 }
     ensures { result ≡ position (has_name name.now) (slots_in slots.now) }
@@ -61,7 +62,9 @@ pub fn find(slots: &[u8], name: &Name) -> Option<u32>
     None
 }
 
-/// The number of the first empty slot, one whose i-number is 0 (filsys(5)). Slots are counted from 0, 16 bytes each; a rest of fewer bytes is no slot.
+/// The number of the first empty slot, one whose i-number is 0 (filsys(5)). Slots are counted from 0, 16 bytes each, and there are at most 2^32;
+/// a rest of fewer bytes is no slot.
+#[tactic(auto, using(crate::proofs::Firsts::first_slot, crate::proofs::Firsts::no_slot))]
 pub fn first_empty(slots: &[u8]) -> Option<u32>
     requires { length slots.now / 16 ≤ 2 ^ 32 }
     ensures { result ≡ position is_none (slots_in slots.now) }
