@@ -19,7 +19,7 @@ fn bits_for(cred: &Cred, node: &Attr) -> u16
     if cred.uid == node.uid {
         return node.mode / 64 % 8;
     }
-    if cred.gid == node.gid || cred.gids.list().contains(&node.gid) {
+    if cred.gid == node.gid || cred.gids.ids().contains(&node.gid) {
         return node.mode / 8 % 8;
     }
     node.mode % 8

@@ -6,8 +6,8 @@ use std::test::Fail;
 #[test]
 fn copies_are_what_was_copied(rt: HostRuntime) -> Result<(), Fail> {
     let alloc = rt.alloc();
-    assert!(rt; Name::copy(b"f").list() == b"f".as_slice());
-    assert!(rt; Gids::copy(&[1, 2]).list() == [1, 2].as_slice());
+    assert!(rt; Name::copy(b"f").bytes() == b"f".as_slice());
+    assert!(rt; Gids::copy(&[1, 2]).ids() == [1, 2].as_slice());
     assert!(rt; Text::copy(alloc, b"../a").map_err(|_| "memory")?.bytes() == b"../a".as_slice());
     assert!(rt; Data::copy(alloc, b"XY").map_err(|_| "memory")?.bytes() == b"XY".as_slice());
     Ok(())

@@ -40,3 +40,23 @@ impl<T: Copy + Default, const MOST: usize> InPlace<T, MOST> {
         self.kept.as_slice()
     }
 }
+
+impl<const MOST: usize> InPlace<u8, MOST> {
+    /// The bytes, of which there are at most `MOST`.
+    pub fn bytes(&self) -> &[u8]
+        ensures bytes { result.now ≡ self.now }
+        ensures longest { length result.now ≤ MOST }
+    {
+        self.list()
+    }
+}
+
+impl<const MOST: usize> InPlace<u16, MOST> {
+    /// The ids, of which there are at most `MOST`.
+    pub fn ids(&self) -> &[u16]
+        ensures ids { result.now ≡ self.now }
+        ensures most { length result.now ≤ MOST }
+    {
+        self.list()
+    }
+}

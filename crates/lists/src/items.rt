@@ -32,3 +32,12 @@ impl<T: Drop> Items<T> {
         self.kept.as_slice()
     }
 }
+
+impl Items<u8> {
+    /// The bytes.
+    pub fn bytes(&self) -> &[u8]
+        ensures { result.now ≡ self.now }
+    {
+        self.list()
+    }
+}

@@ -12,7 +12,7 @@ fn put_entry(sheet: &mut Sheet, entry: &Entry)
     ensures { sheet.new ≡ added sheet.old (entry_bytes entry.now) }
 {
     sheet.put_words(&[1, entry.fileid]);
-    sheet.put_opaque(entry.name.list());
+    sheet.put_opaque(entry.name.bytes());
     sheet.put_words(&[entry.cookie]);
 }
 

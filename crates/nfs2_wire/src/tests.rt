@@ -191,7 +191,7 @@ fn a_write_is_answered(rt: HostRuntime) -> Result<(), Fail> {
     let mut stale = [0; 28];
     BigEndian::write_u32_into(&[9, 1, 0, 0, 0, 0, 70], &mut stale);
     let reply = stale_reply(9);
-    assert_eq!(rt; reply.list(), stale.as_slice());
+    assert_eq!(rt; reply.bytes(), stale.as_slice());
     Ok(())
 }
 

@@ -74,7 +74,7 @@ fn answer_stale<L: Link>(link: &mut L, from: Address, xid: u32) -> Turn
     ensures left { L.left link.new ≡ L.left link.old }
     ensures answered { AnswersStale (worker_of L.left L.sent L.faults) link.old link.new from xid result }
 {
-    match link.send(&from, stale_reply(xid).list()) {
+    match link.send(&from, stale_reply(xid).bytes()) {
         Ok(()) => Turn::Answered(1),
         Err(_) => Turn::Dropped(DropCause::SendFailed),
     }

@@ -109,7 +109,7 @@ fn entries_are_read_by_rising_index(rt: HostRuntime) -> Result<(), Fail> {
 // Two words that are stored on a formatted board, and why it is refused then.
 type Row = ([(u32, u64); 2], BoardFault);
 
-const REFUSED: [Row; 10] = [
+const REFUSED: [Row; 3] = [
     // no mark, whatever the name is
     (
         [(0, 0), (1, OTHER_WORD)],
@@ -131,48 +131,30 @@ const REFUSED: [Row; 10] = [
             volume: VOLUME,
         },
     ),
+];
+
+// Two words that are stored on a formatted board, and which entry is bad then, with its word.
+const BAD: [([(u32, u64); 2], u32, u64); 7] = [
     // neither 0 nor set
-    ([(2, 5), (3, 0)], BoardFault::BadEntry { index: 0, word: 5 }),
+    ([(2, 5), (3, 0)], 0, 5),
     // the lowest bad one
-    ([(4, 5), (3, 6)], BoardFault::BadEntry { index: 1, word: 6 }),
+    ([(4, 5), (3, 6)], 1, 6),
     // one sector twice, one buffer twice
     (
         [(2, 0x8000000000000005), (4, 0x8000000100000005)],
-        BoardFault::BadEntry {
-            index: 2,
-            word: 0x8000000100000005,
-        },
+        2,
+        0x8000000100000005,
     ),
     (
         [(2, 0x8000000000000005), (3, 0x8000000000000006)],
-        BoardFault::BadEntry {
-            index: 1,
-            word: 0x8000000000000006,
-        },
+        1,
+        0x8000000000000006,
     ),
     // a bit above the buffer's sixteen
-    (
-        [(2, 0x8001000000000005), (3, 0)],
-        BoardFault::BadEntry {
-            index: 0,
-            word: 0x8001000000000005,
-        },
-    ),
+    ([(2, 0x8001000000000005), (3, 0)], 0, 0x8001000000000005),
     // sector 8 of eight, buffer 4 of four
-    (
-        [(2, 0x8000000000000008), (3, 0)],
-        BoardFault::BadEntry {
-            index: 0,
-            word: 0x8000000000000008,
-        },
-    ),
-    (
-        [(2, 0x8000000400000005), (3, 0)],
-        BoardFault::BadEntry {
-            index: 0,
-            word: 0x8000000400000005,
-        },
-    ),
+    ([(2, 0x8000000000000008), (3, 0)], 0, 0x8000000000000008),
+    ([(2, 0x8000000400000005), (3, 0)], 0, 0x8000000400000005),
 ];
 
 #[test]
@@ -180,6 +162,12 @@ fn a_board_is_refused_for_its_first_fault(rt: HostRuntime) -> Result<(), Fail> {
     for (words, fault) in REFUSED {
         let mut rig = formatted(rt.alloc())?;
         assert_eq!(rt; store(&mut rig, &words), Ok(()));
+        assert_eq!(rt; try_read(rt.alloc(), &mut rig).err(), Some(fault));
+    }
+    for (words, index, word) in BAD {
+        let mut rig = formatted(rt.alloc())?;
+        assert_eq!(rt; store(&mut rig, &words), Ok(()));
+        let fault = BoardFault::BadEntry { index, word };
         assert_eq!(rt; try_read(rt.alloc(), &mut rig).err(), Some(fault));
     }
     let mut lost = formatted(rt.alloc())?.crash(false, 0);

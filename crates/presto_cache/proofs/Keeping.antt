@@ -1,5 +1,5 @@
 -- What `keep` has found before it stores: the sector's entry, and a buffer for it.
-use Rattle.std.proofs.Common.{◌≡◌, ◌⊎◌, ℕ, ◌<◌, ◌^◌, Some, List, set, sym, ◌∙◌, ap, subst}
+use Rattle.std.proofs.Common.{◌≡◌, ◌⊎◌, ℕ, ◌<◌, ◌^◌, Some, set, sym, subst}
 use Rattle.rig.specs.declared.rig.Rig.{Ghosts}
 use Rattle.presto_cache.specs.Slots.{AreSlots, NoDoubt, IsLowestUnused, at, place_in}
 use Rattle.presto_cache.specs.Stores.{IsFill}
@@ -17,18 +17,15 @@ pub record IsFound {R : Type 0} (r : Ghosts R) (rig : R) (cache : Cache) (sector
   pub fill : IsFill (r.sizes rig) (slots_of cache) index sector buffer
 
 module _ {R : Type 0} (r : Ghosts R) {rig : R} {cache : Cache} (knows : Knows r rig cache) {s i b : ℕ} where
-  -- it was looked for in slices of the entries
-  pub found : NoDoubt (slots_of cache) → s < (r.sizes rig).sectors → s < 2 ^ 32 → {one two : List Slot} → one ≡ slots_of cache → two ≡ slots_of cache
-      → Some i ≡ place_in one s → IsLowestUnused two b → b < buffers_of cache → IsFound r rig cache s i b
-  found sure on_disk small one two placed low in_range =
-      let place : place_in (slots_of cache) s ≡ Some i = ap (λ l. place_in l s) (sym one) ∙ sym placed in
-      let lowest : IsLowestUnused (slots_of cache) b = subst (λ l. IsLowestUnused l b) two low in
+  -- what `keep` looked for
+  pub found : NoDoubt (slots_of cache) → s < (r.sizes rig).sectors → s < 2 ^ 32 → Some i ≡ place_in (slots_of cache) s → IsLowestUnused (slots_of cache) b → b < buffers_of cache → IsFound r rig cache s i b
+  found sure on_disk small placed low in_range =
       record {
-        place = place;
-        lowest = lowest;
+        place = sym placed;
+        lowest = low;
         fill = record {
-          place = is_place (buffers_of cache) (slots_of cache) s i cache.are sure place;
-          unused = lowest.unused;
+          place = is_place (buffers_of cache) (slots_of cache) s i cache.are sure (sym placed);
+          unused = low.unused;
           on_board = subst (λ n. b < n) knows.suits.buffers in_range;
           on_disk = on_disk;
           small = small;

@@ -11,5 +11,6 @@ pub mod Listing
 pub mod Counting
 pub mod Knowing
 pub mod Making
+mod Sparing
 mod Keeping
 mod Reading

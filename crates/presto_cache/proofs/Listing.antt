@@ -1,19 +1,18 @@
 -- The order lists each dirty entry once.
-use Rattle.std.proofs.Common.{◌≡◌, ◌≢◌, ◌⊎◌, inl, inr, ⊎_elim, ℕ, zero, suc, ◌+◌, ◌-◌, ◌<◌, ◌≤◌, Bool, true, false, not, cond, if◌then◌else◌, nat_eq, nat_lt, Some, None, List, [], ◌∷◌, ◌++◌, map, length, get_or, set, take, refl, sym, ◌∙◌, ap, subst, arith, length-append}
-use Rattle.std.specs.List.{position, position_or_len, remove, IsDistinct, AllByRecursion, list_any}
-use Rattle.std.proofs.lemmas.Bool.{eqb-true, eqb-false, eq-eqb, ltb-true, ltb-false, true≢false}
-use Rattle.std.proofs.lemmas.List.{take_all, drop_all, append-nil, length-set, length-take, get_or_past, get_or_append_left, get_or_at}
+use Rattle.std.proofs.Common.{◌≡◌, ◌≢◌, ◌⊎◌, inl, inr, ⊎_elim, ℕ, zero, suc, ◌+◌, ◌-◌, ◌<◌, ◌≤◌, Bool, true, false, ◌||◌, if◌then◌else◌, nat_eq, Some, List, [], ◌∷◌, ◌++◌, map, length, get_or, set, take, refl, sym, ◌∙◌, ap, subst, arith, length-append}
+use Rattle.std.proofs.lemmas.Bool.{eqb-true, eqb-false, eq-eqb, ltb-true, ltb-false}
+use Rattle.std.proofs.lemmas.List.{length-take, get_or_past, get_or_append_left, get_or_at}
 use Rattle.std.proofs.Math.Seq.{take-suc}
 use Rattle.std.specs.List.Sorted.{IsStrictlyIncreasing}
-use Rattle.std.proofs.lemmas.Map.Steps.{length-le_from_distinct_below}
 use Rattle.std.proofs.lemmas.Option.{none-some}
 use Rattle.std.proofs.Math.Dec.{eqb, ltb}
+use Rattle.index_sets.specs.Queue.{is_listed}
 use Rattle.presto_cache.specs.Slots.{at, is_dirty}
 use Rattle.presto_cache.specs.Order.{times, IsOrderOf, without, followed, first_of}
 use Rattle.presto_cache.specs.Entries.{Entry, entry_in, entries_in, with_entry, without_entry, oldest_in, changed}
 use Rattle.presto_cache.specs.declared.slot.Slot.{Slot}
-use Rattle.presto_cache.specs.declared.slot.Slot.TheVariants.{Free, Set}
-use Rattle.presto_cache.proofs.Slots.{at_set, or_cases}
+use Rattle.presto_cache.specs.declared.slot.Slot.TheVariants.{Free}
+use Rattle.presto_cache.proofs.Slots.{at_set}
 
 -- the index at the head is that one, or another
 pub by_head : {P : Type 0} (x k : ℕ) → (x ≡ k → P) → (x ≢ k → P) → P
@@ -100,52 +99,8 @@ moved_ordered slots order i dirty is k = by_head k i
     ∙ sym (ap (λ n. if is_dirty (at slots n) then 1 else 0) e ∙ ap (λ b. if b then 1 else 0) dirty))
     (λ ne. times_last_other k i (without i order) ne ∙ times_without_other k i order ne ∙ is k)
 
--- no more entries are listed than there are
-apart : (x : ℕ) (xs : List ℕ) → times x xs ≡ 0 → AllByRecursion (λ y. eqb x y ≡ false) xs
-apart x [] h = tt
-apart x (y ∷ ys) h = by_head y x
-    (λ e. let t = times_here y x ys e in absurd (omega (arith, t, h)))
-    (λ ne. (nat_eq_other x y (λ e. ne (sym e)), apart x ys (sym (times_there y x ys ne) ∙ h)))
-
 times_more : (k x : ℕ) (xs : List ℕ) → times k xs ≤ times k (x ∷ xs)
 times_more k x xs = by_head x k (λ e. let t = times_here x k xs e in omega (arith, t)) (λ ne. let t = times_there x k xs ne in omega (arith, t))
-
-once : (xs : List ℕ) → ((k : ℕ) → times k xs ≤ 1) → IsDistinct eqb xs
-unfolding IsDistinct
-once [] h = tt
-once (x ∷ xs) h = (apart x xs (let t = times_here x x xs refl in let m = h x in omega (arith, t, m)), once xs (λ k. let m = h k in let n = times_more k x xs in omega (arith, m, n)))
-
-listed_times : (q : ℕ) (xs : List ℕ) → list_any (eqb q) xs ≡ true → 1 ≤ times q xs
-listed_times q [] h = absurd (true≢false (sym h))
-listed_times q (x ∷ xs) h = ⊎_elim
-    (λ here. let t = times_here x q xs (sym (eqb-true q x here)) in omega (arith, t))
-    (λ there. let m = times_more q x xs in let n = listed_times q xs there in omega (arith, m, n))
-    (or_cases (eqb q x) (list_any (eqb q) xs) h)
-
-if_one : (b : Bool) → (if b then 1 else 0) ≤ 1
-if_one true = omega arith
-if_one false = omega arith
-
-pub order_fits : (slots : List Slot) (order : List ℕ) → IsOrderOf slots order → length order ≤ length slots
-order_fits slots order is = length-le_from_distinct_below order (length slots) (once order (λ k. let t = is k in let b = if_one (is_dirty (at slots k)) in omega (arith, t, b))) below
-  where
-    below : (q : ℕ) → list_any (eqb q) order ≡ true → q < length slots
-    below q h = case (ltb q (length slots)) refl
-      where
-        case : (b : Bool) → ltb q (length slots) ≡ b → q < length slots
-        case true lt = ltb-true q (length slots) lt
-        case false ge =
-            let none = is q ∙ ap (λ s. if is_dirty s then 1 else 0) (get_or_past slots q Free (ltb-false q (length slots) ge)) in
-            let some = listed_times q order h in
-            absurd (omega (arith, none, some))
-
--- one more can be listed while an entry is free
-pub order_room : (slots : List Slot) (order : List ℕ) (i : ℕ) → i < length slots → is_dirty (at slots i) ≡ false → IsOrderOf slots order → length order < length slots
-order_room slots order i lt free is =
-    let new = Set 0 0 in
-    let more : IsOrderOf (set slots i new) (order ++ i ∷ []) = subst (λ b. IsOrderOf (set slots i new) (followed b true i order)) free (still_ordered slots order i new lt is) in
-    let few = order_fits (set slots i new) (order ++ i ∷ []) more in
-    omega (arith, few, length-set slots i new, length-append order (i ∷ []))
 
 pub length_without : (k : ℕ) (xs : List ℕ) → 1 ≤ times k xs → length (without k xs) + 1 ≡ length xs
 length_without k [] h = absurd (omega (arith, h))
@@ -153,46 +108,15 @@ length_without k (x ∷ xs) h = by_head x k
     (λ e. let l = ap length (without_here x k xs e) in omega (arith, l))
     (λ ne. let l = ap length (without_there x k xs ne) in let t = times_there x k xs ne in let r = length_without k xs (omega (arith, h, t)) in omega (arith, l, r))
 
--- one that is listed can be listed last
-pub moved_room : (slots : List Slot) (order : List ℕ) (i : ℕ) → is_dirty (at slots i) ≡ true → IsOrderOf slots order → length (without i order) < length slots
-moved_room slots order i dirty is =
-    let one = is i ∙ ap (λ b. if b then 1 else 0) dirty in
-    omega (arith, order_fits slots order is, length_without i order (omega (arith, one)))
+unlisted : (k : ℕ) (xs : List ℕ) → times k xs ≡ 0 → is_listed k xs ≡ false
+unlisted k [] h = refl
+unlisted k (x ∷ xs) h = by_head x k
+    (λ e. let t = times_here x k xs e in absurd (omega (arith, t, h)))
+    (λ ne. ap (λ b. b || is_listed k xs) (nat_eq_other x k ne) ∙ unlisted k xs (sym (times_there x k xs ne) ∙ h))
 
--- an index is taken out where it is found
-position_is : (p : ℕ → Bool) (xs : List ℕ) (i : ℕ) → position p xs ≡ Some i → position_or_len p xs ≡ i
-position_is p xs i found = case (nat_lt (position_or_len p xs) (length xs)) refl
-  where
-    case : (b : Bool) → nat_lt (position_or_len p xs) (length xs) ≡ b → position_or_len p xs ≡ i
-    case true is = let e : Some (position_or_len p xs) ≡ Some i = sym (ap (λ b. cond b (Some (position_or_len p xs)) None) is) ∙ found in cc
-    case false is = absurd (none-some i (sym (ap (λ b. cond b (Some (position_or_len p xs)) None) is) ∙ found))
-
-position_past : (p : ℕ → Bool) (xs : List ℕ) → position p xs ≡ None → length xs ≤ position_or_len p xs
-position_past p xs none = case (nat_lt (position_or_len p xs) (length xs)) refl
-  where
-    case : (b : Bool) → nat_lt (position_or_len p xs) (length xs) ≡ b → length xs ≤ position_or_len p xs
-    case true is = absurd (none-some (position_or_len p xs) (sym none ∙ ap (λ b. cond b (Some (position_or_len p xs)) None) is))
-    case false is = ltb-false (position_or_len p xs) (length xs) is
-
-place_head : (k x : ℕ) (xs : List ℕ) → x ≢ k → position_or_len (λ y. nat_eq y k) (x ∷ xs) ≡ suc (position_or_len (λ y. nat_eq y k) xs)
-place_head k x xs ne =
-    let next : 1 + position_or_len (λ y. nat_eq y k) xs ≡ suc (position_or_len (λ y. nat_eq y k) xs) = omega arith in
-    ap (λ b. cond (not b) (1 + position_or_len (λ y. nat_eq y k) xs) 0) (nat_eq_other x k ne) ∙ next
-
-removed_first : (k : ℕ) (xs : List ℕ) → remove xs (position_or_len (λ y. nat_eq y k) xs) ≡ without k xs
-removed_first k [] = refl
-removed_first k (x ∷ xs) = by_head x k
-    (λ e. ap (λ b. remove (x ∷ xs) (cond (not b) (1 + position_or_len (λ y. nat_eq y k) xs) 0)) (nat_eq_same x k e) ∙ sym (without_here x k xs e))
-    (λ ne. ap (remove (x ∷ xs)) (place_head k x xs ne) ∙ ap (λ l. x ∷ l) (removed_first k xs) ∙ sym (without_there x k xs ne))
-
-pub removed_at : (k : ℕ) (xs : List ℕ) (i : ℕ) → position (λ y. nat_eq y k) xs ≡ Some i → remove xs i ≡ without k xs
-removed_at k xs i found = ap (remove xs) (sym (position_is (λ y. nat_eq y k) xs i found)) ∙ removed_first k xs
-
-pub removed_none : (k : ℕ) (xs : List ℕ) → position (λ y. nat_eq y k) xs ≡ None → without k xs ≡ xs
-removed_none k xs none =
-    let n = position_or_len (λ y. nat_eq y k) xs in
-    let past = position_past (λ y. nat_eq y k) xs none in
-    sym (removed_first k xs) ∙ ap (λ l. take n xs ++ l) (drop_all (suc n) xs (omega (arith, past))) ∙ append-nil (take n xs) ∙ take_all n xs past
+-- an entry that is free isn't listed
+pub not_listed : (slots : List Slot) (order : List ℕ) (i : ℕ) → is_dirty (at slots i) ≡ false → IsOrderOf slots order → is_listed i order ≡ false
+not_listed slots order i free is = unlisted i order (is i ∙ ap (λ b. if b then 1 else 0) free)
 
 pub without_absent : (k : ℕ) (xs : List ℕ) → times k xs ≡ 0 → without k xs ≡ xs
 without_absent k [] h = refl
@@ -356,8 +280,8 @@ module _ (slots : List Slot) (n : ℕ) (order : List ℕ) (lt : n < length slots
       case true dirty = looked_dirty dirty
       case false free = (looked_free free, up)
 
-  pub looked_room : length order ≤ n
-  looked_room = omega (arith, here, order_fits (take n slots) order is)
+  pub looked_new : is_listed n order ≡ false
+  looked_new = unlisted n order (times_past (take n slots) order n (omega (arith, here)) is)
 
 pub indices_in : (slots : List Slot) (order : List ℕ) → map (λ (e : Entry). e.index) (entries_in slots order) ≡ order
 indices_in slots [] = refl

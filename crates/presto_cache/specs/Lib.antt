@@ -1,5 +1,6 @@
 pub mod Slots
 pub mod Order
+pub mod Spare
 pub mod Entries
 pub mod Made
 pub mod Board

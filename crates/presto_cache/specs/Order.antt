@@ -1,16 +1,17 @@
 -- The order in which the dirty entries of a board are listed.
-use Rattle.std.specs.Prelude.{◌≡◌, ℕ, suc, Bool, true, false, if◌then◌else◌, nat_eq, List, [], ◌∷◌, ◌++◌, Option, Some, None, vec_capacity}
+use Rattle.std.specs.Prelude.{◌≡◌, ℕ, suc, Bool, true, false, if◌then◌else◌, nat_eq, List, [], ◌∷◌, ◌++◌}
+pub use Rattle.index_sets.specs.Queue.{without, first_of}
 use Rattle.presto_cache.specs.Slots.{at, is_dirty}
 use Rattle.presto_cache.specs.declared.slot.Slot.{Slot}
 use Rattle.presto_cache.specs.declared.order.Order.{Order}
 
 -- the indices, the oldest first
 abbrev pub listed : Order → List ℕ
-listed order = order.indices.items
+listed order = order.indices.listed
 
--- how many it lists without more memory
+-- how many entries there may be
 abbrev pub room_of : Order → ℕ
-room_of order = vec_capacity order.indices
+room_of order = order.indices.size
 
 -- how often the index is listed
 abbrev pub times : ℕ → List ℕ → ℕ
@@ -20,16 +21,6 @@ times k (x ∷ xs) = if nat_eq x k then suc (times k xs) else times k xs
 -- each dirty entry is listed once, and no other
 abbrev pub IsOrderOf : List Slot → List ℕ → Type 0
 IsOrderOf slots order = (k : ℕ) → times k order ≡ (if is_dirty (at slots k) then 1 else 0)
-
--- without the first place of that index
-abbrev pub without : ℕ → List ℕ → List ℕ
-without k [] = []
-without k (x ∷ xs) = if nat_eq x k then xs else x ∷ without k xs
-
--- the oldest
-abbrev pub first_of : List ℕ → Option ℕ
-first_of [] = None
-first_of (x ∷ xs) = Some x
 
 -- of an entry that was dirty or not, and then is or isn't: one that becomes dirty is the youngest, one that becomes free leaves
 abbrev pub followed : Bool → Bool → ℕ → List ℕ → List ℕ

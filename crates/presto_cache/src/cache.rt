@@ -1,14 +1,16 @@
 // A board's entries, as their cache knows them.
-ghost use Rattle.std.specs.Prelude.{◌≤◌, length};
+ghost use Rattle.std.specs.Prelude.{◌≡◌, ◌≤◌, length};
 ghost use Rattle.presto_cache.specs.Slots.{AreSlots};
 ghost use Rattle.presto_cache.specs.Order.{IsOrderOf, listed, room_of};
+ghost use Rattle.presto_cache.specs.Spare.{IsSpareOf};
 
 use crate::clear::{clear, failed_to_clear};
 use crate::fill::fill;
 use crate::made::slots_for;
 use crate::order::Order;
-use crate::place::{find, is_taken, lowest_unused, place, slot_at, slot_sector};
+use crate::place::{find, is_taken, slot_at, slot_sector};
 use crate::slot::Slot;
+use crate::spare::Spare;
 use crate::word::read_as;
 use nvram_map::Board;
 use rig::{Failed, NoMemory, Rig};
@@ -34,10 +36,12 @@ pub enum Keep {
 pub struct Cache {
     slots: Vec<Slot>,
     order: Order,
+    spare: Spare,
     buffers: u32,
     pub ghost are: { AreSlots buffers slots.items },
     pub ghost ordered: { IsOrderOf slots.items (listed order) },
-    ghost room: { length slots.items ≤ room_of order },
+    ghost room: { room_of order ≡ length slots.items },
+    ghost unused: { IsSpareOf buffers slots.items spare },
 }
 
 impl Cache {
@@ -49,7 +53,7 @@ impl Cache {
     ghost use Rattle.rig.specs.Looked.{Looked, StaysOffDisk};
     ghost use Rattle.nvram_map.specs.Boards.{FitBoard, FitBuffers};
     ghost use Rattle.nvram_map.specs.Overlay.{overlay};
-    ghost use Rattle.presto_cache.specs.Slots.{NoDoubt, at, is_dirty, in_doubt, sector_of, find_in};
+    ghost use Rattle.presto_cache.specs.Slots.{NoDoubt, IsLowestUnused, at, is_dirty, in_doubt, sector_of, find_in, place_in};
     ghost use Rattle.presto_cache.specs.Entries.{AreByIndex, oldest_in};
     ghost use Rattle.presto_cache.specs.Made.{AreReadFrom, IsMadeOf};
     ghost use Rattle.presto_cache.specs.Board.{IsOf, PutsOnBoard, KeepsOnBoard};
@@ -71,9 +75,11 @@ impl Cache {
     {
         let slots = slots_for(alloc, board.entries.list(), buffers)?;
         let order = Order::by_index(alloc, &slots)?;
+        let spare = Spare::of(alloc, &slots, buffers)?;
         Ok(Cache {
             slots,
             order,
+            spare,
             buffers,
         })
     }
@@ -103,11 +109,10 @@ impl Cache {
         ensures crash { LeavesOnly R.moment R.left_since rig.old rig.new (PutsOnBoard (R.sizes rig.old) sector bytes.now (R.contents rig.old)) }
         ensures stays { StaysOffDisk R.Rig rig.old rig.new }
     {
-        let Some(index) = place(&self.slots, sector) else {
+        let Some(index) = self.place(sector) else {
             return Keep::Full;
         };
-        let index = index as u32;
-        let buffer = lowest_unused(&self.slots, self.buffers);
+        let buffer = self.lowest_unused();
         match fill(&self.slots, rig, index, sector, buffer, bytes) {
             Ok(()) => {
                 self.know(index, Slot::Set { sector, buffer });
@@ -204,7 +209,7 @@ impl Cache {
         ensures listed { result ≡ length (entries_of self.now) }
         ensures none { result ≡ 0 → (index : ℕ) → is_dirty (at (slots_of self.now) index) ≡ false }
     {
-        self.order.len() as u32
+        self.order.len()
     }
 
     /// The sector of a dirty entry.
@@ -216,6 +221,29 @@ impl Cache {
         slot_sector(slot_at(&self.slots, index))
     }
 
+    // The entry of a sector, or the lowest free one.
+    fn place(&self, sector: u32) -> Option<u32>
+        ensures { result ≡ place_in (slots_of self.now) sector }
+    {
+        match self.find(sector) {
+            Some(index) => Some(index),
+            None => self.spare.lowest_entry(),
+        }
+    }
+
+    // The lowest buffer that no entry takes: there are more buffers than entries.
+    fn lowest_unused(&self) -> u32
+        requires sure { NoDoubt (slots_of self.now) }
+        requires some { 0 < buffers_of self.now }
+        ensures lowest { IsLowestUnused (slots_of self.now) result }
+        ensures in_range { result < buffers_of self.now }
+    {
+        match self.spare.lowest_buffer() {
+            Some(buffer) => buffer,
+            None => 0,
+        }
+    }
+
     // Knows this of an entry from now on.
     fn know(&mut self, index: u32, slot: Slot)
         requires index { index < length (slots_of self.old) }
@@ -223,9 +251,10 @@ impl Cache {
         ensures is { Becomes index slot self.old self.new }
         ensures buffers { buffers_of self.new ≡ buffers_of self.old }
     {
-        let was = is_taken(&slot_at(&self.slots, index));
+        let was = slot_at(&self.slots, index);
         self.slots[index as usize] = slot;
-        self.order.follow(index, was, is_taken(&slot));
+        self.order.follow(index, is_taken(&was), is_taken(&slot));
+        self.spare.follow(index, was, slot);
     }
 }
 

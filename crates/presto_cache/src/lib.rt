@@ -9,6 +9,7 @@ mod made;
 mod order;
 mod place;
 mod slot;
+mod spare;
 mod word;
 
 pub use cache::{Cache, Keep};

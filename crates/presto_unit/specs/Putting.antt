@@ -1,16 +1,17 @@
 -- What a put makes of a unit's parts, beside what each store promises of it.
-use Rattle.std.specs.Prelude.{◌≡◌, ◌≢◌, ℕ, List, [], get_or, set, None, Result, IsOk, IsSome, OnOk}
+use Rattle.std.specs.Prelude.{◌≡◌, ◌≢◌, ◌≤◌, ◌+◌, ℕ, List, [], get_or, set, length, None, Result, IsOk, IsSome, OnOk}
 use Rattle.stable.specs.Counts.{Rose}
+use Rattle.stable.specs.declared.state.Cause.{Cause}
 use Rattle.stable.specs.declared.state.State.{State}
 use Rattle.stable.specs.declared.state.State.TheVariants.{Up}
 use Rattle.rig.specs.declared.rig.Rig.{Ghosts}
 use Rattle.nvram_map.specs.Overlay.{overlay}
-use Rattle.presto_cache.specs.Cache.{slots_of, entries_of, Becomes}
+use Rattle.presto_cache.specs.Cache.{slots_of, entries_of, Becomes, Knows}
 use Rattle.presto_cache.specs.Slots.{NoDoubt, at, find_in, place_in, sector_of}
 use Rattle.presto_cache.specs.declared.slot.Slot.TheVariants.{Free}
 use Rattle.presto_cache.specs.declared.cache.Cache.{Cache}
 use Rattle.presto_unit.specs.Disk.{PutsOneMakingRoom}
-use Rattle.presto_unit.specs.Flushing.{AddsNone, IsPutOnBoard, oldest_sector}
+use Rattle.presto_unit.specs.Flushing.{AddsNone, HasDevice, IsPutOnBoard, oldest_sector}
 
 -- The sector is new in the overlay, and stands on the board; no entry is in doubt.
 pub record StandsOnBoard {R : Type 0} (r : Ghosts R) (sector : ℕ) (bytes : List ℕ) (old new : R) (was is : Cache) : Type 0 where
@@ -18,6 +19,13 @@ pub record StandsOnBoard {R : Type 0} (r : Ghosts R) (sector : ℕ) (bytes : Lis
   pub stands : IsSome (find_in (slots_of is) sector)
   pub sure : NoDoubt (slots_of is)
   pub image : r.tells → overlay (r.contents new) ≡ set (overlay (r.contents old)) sector bytes
+
+-- A sector was kept in UP, or a device failed; what is known stays known, and one entry is added at most.
+pub record KeptUp {T R : Type 0} (r : Ghosts R) (sector : ℕ) (bytes : List ℕ) (old new : R) (was is : Cache) (result : Result T Cause) : Type 0 where
+  pub knows : Knows r new is
+  pub done : OnOk result (StandsOnBoard r sector bytes old new was is)
+  pub few : length (entries_of is) ≤ length (entries_of was) + 1
+  pub device : HasDevice (r.faults old) (r.faults new) result
 
 -- The sector is new in the overlay, and stands on the disk; no entry of it is left.
 pub record StandsOnDisk {R : Type 0} (r : Ghosts R) (sector : ℕ) (bytes : List ℕ) (old new : R) (is : Cache) : Type 0 where

@@ -9,8 +9,8 @@ ghost use Rattle.presto_cache.specs.Slots.{NoDoubt, place_in};
 ghost use Rattle.presto_cache.specs.Cache.{slots_of, entries_of, Knows};
 ghost use Rattle.presto_states.specs.Track.{IsNoted};
 ghost use Rattle.presto_unit.specs.Disk.{PutsOneMakingRoom};
-ghost use Rattle.presto_unit.specs.Flushing.{HasDevice, oldest_sector};
-ghost use Rattle.presto_unit.specs.Putting.{PutsByState, StandsOnBoard};
+ghost use Rattle.presto_unit.specs.Flushing.{oldest_sector};
+ghost use Rattle.presto_unit.specs.Putting.{KeptUp, PutsByState};
 
 use crate::flush::flush_oldest;
 use crate::tend::failing;
@@ -31,11 +31,8 @@ fn keep_now<R: Rig>(
     requires sector { sector < (R.sizes rig.old).sectors }
     requires sure { NoDoubt (slots_of cache.old) }
     requires room { place_in (slots_of cache.old) sector ≢ None }
-    ensures knows { Knows R.Rig rig.new cache.new }
-    ensures done { OnOk result (StandsOnBoard R.Rig sector bytes.now rig.old rig.new cache.old cache.new) }
-    ensures few { length (entries_of cache.new) ≤ length (entries_of cache.old) + 1 }
+    ensures kept { KeptUp R.Rig sector bytes.now rig.old rig.new cache.old cache.new result }
     ensures crash { (other : ℕ) → PutsOneMakingRoom R.Rig sector other bytes.now rig.old rig.new }
-    ensures device { HasDevice (R.faults rig.old) (R.faults rig.new) result }
     ensures stays { StaysOffDisk R.Rig rig.old rig.new }
 {
     match cache.keep(rig, sector, bytes) {
@@ -52,16 +49,13 @@ fn keep_in_full<R: Rig>(
     sector: u32,
     bytes: &[u8; 512],
 ) -> Result<(), Cause>
+    requires full { place_in (slots_of cache.old) sector ≡ None }
     requires knows { Knows R.Rig rig.old cache.old }
     requires sector { sector < (R.sizes rig.old).sectors }
     requires board { 0 < (R.sizes rig.old).buffers }
     requires sure { NoDoubt (slots_of cache.old) }
-    requires full { place_in (slots_of cache.old) sector ≡ None }
-    ensures knows { Knows R.Rig rig.new cache.new }
-    ensures done { OnOk result (StandsOnBoard R.Rig sector bytes.now rig.old rig.new cache.old cache.new) }
-    ensures few { length (entries_of cache.new) ≤ length (entries_of cache.old) + 1 }
+    ensures kept { KeptUp R.Rig sector bytes.now rig.old rig.new cache.old cache.new result }
     ensures crash { PutsOneMakingRoom R.Rig sector (oldest_sector (entries_of cache.old)) bytes.now rig.old rig.new }
-    ensures device { HasDevice (R.faults rig.old) (R.faults rig.new) result }
     ensures stays { Stays R.Rig rig.old rig.new }
 {
     match cache.oldest() {
@@ -84,12 +78,9 @@ pub fn keep_up<R: Rig>(
     requires sector { sector < (R.sizes rig.old).sectors }
     requires board { 0 < (R.sizes rig.old).buffers }
     requires sure { NoDoubt (slots_of cache.old) }
-    ensures knows { Knows R.Rig rig.new cache.new }
-    ensures done { OnOk result (StandsOnBoard R.Rig sector bytes.now rig.old rig.new cache.old cache.new) }
+    ensures kept { KeptUp R.Rig sector bytes.now rig.old rig.new cache.old cache.new result }
     ensures quiet { place_in (slots_of cache.old) sector ≢ None → R.disk_writes rig.new ≡ R.disk_writes rig.old }
-    ensures few { length (entries_of cache.new) ≤ length (entries_of cache.old) + 1 }
     ensures crash { PutsOneMakingRoom R.Rig sector (oldest_sector (entries_of cache.old)) bytes.now rig.old rig.new }
-    ensures device { HasDevice (R.faults rig.old) (R.faults rig.new) result }
     ensures stays { Stays R.Rig rig.old rig.new }
 {
     match cache.keep(rig, sector, bytes) {

@@ -1,5 +1,5 @@
 -- A host in memory: as it begins, and which of its calls find no memory.
-use Rattle.std.specs.Prelude.{◌≡◌, ◌↔◌, List, [], Option, Some, None, Result, IsErrOf}
+use Rattle.std.specs.Prelude.{◌≡◌, ◌↔◌, List, [], Some, None, Result, IsErrOf}
 use Rattle.stable.specs.Counts.{one_more}
 use Rattle.rig.specs.declared.host.HostFault.{HostFault}
 use Rattle.rig.specs.declared.host.HostFault.TheVariants as host_fault

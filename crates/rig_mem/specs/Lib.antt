@@ -4,5 +4,6 @@ pub mod Histories
 pub mod Hosts
 pub mod Images
 pub mod Links
+pub mod Recorded
 pub mod Rigs
 pub mod Troubles

@@ -1,5 +1,6 @@
 // What device calls change, each recorded with what was there before.
-ghost use Rattle.std.specs.Prelude.{◌≡◌, ◌<◌, ◌++◌, [], ◌∷◌, if◌then◌else◌, length, get_or, set, true, OnOk, OnErr};
+ghost use Rattle.std.specs.Prelude.{◌≡◌, ◌<◌, [], length, get_or, set, true};
+ghost use Rattle.rig_mem.specs.Recorded.{IsRecorded, IsTaken};
 ghost use Rattle.rig_mem.specs.declared.change.Change.TheVariants.{Sector, Word, Buffer, Kept};
 
 use crate::history::History;
@@ -26,90 +27,69 @@ pub enum Change {
     },
 }
 
-// Puts other bytes in the place of a sector if `takes`, and records it either way.
-pub fn change_sector(
-    disk: &mut Vec<[u8; 512]>,
-    history: &mut History,
-    index: u32,
-    bytes: &[u8; 512],
-    takes: bool,
-) -> Result<(), Failed>
-    requires { index < length disk.old.items }
-    ensures start { history.new.start ≡ history.old.start }
-    ensures disk { OnOk result (disk.new.items ≡ (if takes then set disk.old.items index bytes.now else disk.old.items)) }
-    ensures changes { OnOk result (history.new.changes.items ≡ history.old.changes.items ++ Sector index (get_or disk.old.items index []) bytes.now ∷ []) }
-    ensures disk_err { OnErr result (disk.new.items ≡ disk.old.items) }
-    ensures changes_err { OnErr result (history.new.changes.items ≡ history.old.changes.items) }
-{
-    history.keep(Change::Sector {
-        index,
-        before: disk[index as usize],
-        after: *bytes,
-    })?;
-    if takes {
-        disk[index as usize] = *bytes;
+impl Change {
+    // What putting other bytes in the place of a sector changes.
+    pub fn of_sector(disk: &[[u8; 512]], index: u32, bytes: &[u8; 512]) -> Self
+        requires { index < length disk.now }
+        ensures { result ≡ Sector index (get_or disk.now index []) bytes.now }
+    {
+        Change::Sector {
+            index,
+            before: disk[index as usize],
+            after: *bytes,
+        }
     }
-    Ok(())
+
+    // What storing a word changes.
+    pub fn of_word(words: &[u64], index: u32, word: u64) -> Self
+        requires { index < length words.now }
+        ensures { result ≡ Word index (get_or words.now index 0) word }
+    {
+        Change::Word {
+            index,
+            before: words[index as usize],
+            after: word,
+        }
+    }
+
+    // What filling a buffer changes.
+    pub fn of_buffer(buffers: &[[u8; 512]], index: u32) -> Self
+        requires { index < length buffers.now }
+        ensures { result ≡ Buffer index (get_or buffers.now index []) }
+    {
+        Change::Buffer {
+            index,
+            before: buffers[index as usize],
+        }
+    }
 }
 
-// Puts another word in the place of one if `takes`, and records it either way.
-pub fn change_word(
-    words: &mut Vec<u64>,
-    history: &mut History,
-    index: u32,
-    word: u64,
-    takes: bool,
-) -> Result<(), Failed>
-    requires { index < length words.old.items }
-    ensures start { history.new.start ≡ history.old.start }
-    ensures words { OnOk result (words.new.items ≡ (if takes then set words.old.items index word else words.old.items)) }
-    ensures changes { OnOk result (history.new.changes.items ≡ history.old.changes.items ++ Word index (get_or words.old.items index 0) word ∷ []) }
-    ensures words_err { OnErr result (words.new.items ≡ words.old.items) }
-    ensures changes_err { OnErr result (history.new.changes.items ≡ history.old.changes.items) }
-{
-    history.keep(Change::Word {
-        index,
-        before: words[index as usize],
-        after: word,
-    })?;
-    if takes {
-        words[index as usize] = word;
+impl History {
+    // Puts another item in a place if `takes`, and keeps the change either way.
+    pub fn put<T: Copy>(
+        &mut self,
+        items: &mut Vec<T>,
+        change: Change,
+        index: u32,
+        item: T,
+        takes: bool,
+    ) -> Result<(), Failed>
+        requires { index < length items.old.items }
+        ensures recorded { IsRecorded change result self.old self.new }
+        ensures items { IsTaken takes result items.old.items (set items.old.items index item) items.new.items }
+    {
+        self.keep(change)?;
+        if takes {
+            items[index as usize] = item;
+        }
+        Ok(())
     }
-    Ok(())
-}
-
-// Puts other bytes in the place of a buffer if `takes`, and records it either way.
-pub fn change_buffer(
-    buffers: &mut Vec<[u8; 512]>,
-    history: &mut History,
-    index: u32,
-    bytes: &[u8; 512],
-    takes: bool,
-) -> Result<(), Failed>
-    requires { index < length buffers.old.items }
-    ensures start { history.new.start ≡ history.old.start }
-    ensures buffers { OnOk result (buffers.new.items ≡ (if takes then set buffers.old.items index bytes.now else buffers.old.items)) }
-    ensures changes { OnOk result (history.new.changes.items ≡ history.old.changes.items ++ Buffer index (get_or buffers.old.items index []) ∷ []) }
-    ensures buffers_err { OnErr result (buffers.new.items ≡ buffers.old.items) }
-    ensures changes_err { OnErr result (history.new.changes.items ≡ history.old.changes.items) }
-{
-    history.keep(Change::Buffer {
-        index,
-        before: buffers[index as usize],
-    })?;
-    if takes {
-        buffers[index as usize] = *bytes;
-    }
-    Ok(())
 }
 
 // Marks the board's memory as kept if `takes`, and records it either way.
 pub fn change_kept(kept: &mut bool, history: &mut History, takes: bool) -> Result<(), Failed>
-    ensures start { history.new.start ≡ history.old.start }
-    ensures kept { OnOk result (kept.new ≡ (if takes then true else kept.old)) }
-    ensures changes { OnOk result (history.new.changes.items ≡ history.old.changes.items ++ Kept kept.old ∷ []) }
-    ensures kept_err { OnErr result (kept.new ≡ kept.old) }
-    ensures changes_err { OnErr result (history.new.changes.items ≡ history.old.changes.items) }
+    ensures recorded { IsRecorded (Kept kept.old) result history.old history.new }
+    ensures kept { IsTaken takes result kept.old true kept.new }
 {
     history.keep(Change::Kept { before: *kept })?;
     if takes {

@@ -112,8 +112,8 @@ const ROWS: [Row; 24] = [
 fn take_step(mut rig: MemRig, step: Step) -> Result<(MemRig, bool), NoMemory> {
     let mut ok = true;
     match step {
-        Step::Write { sector, byte } => ok = put(&mut rig, sector, byte).is_ok(),
-        Step::Read { sector } => ok = get(&mut rig, sector).is_ok(),
+        Step::Write { sector, byte } => ok = put(&mut rig, Place::Sector(sector), byte).is_ok(),
+        Step::Read { sector } => ok = get(&mut rig, Place::Sector(sector)).is_ok(),
         Step::Fail { number, newer } => rig.fail(number, newer)?,
         Step::Break { sector } => rig.break_sector(sector)?,
         Step::Heal => rig.heal(),
@@ -123,20 +123,34 @@ fn take_step(mut rig: MemRig, step: Step) -> Result<(MemRig, bool), NoMemory> {
     Ok((rig, ok))
 }
 
-fn put(rig: &mut MemRig, sector: u32, byte: u8) -> Result<(), Failed> {
-    if sector >= rig.sectors() {
-        return Err(Failed);
-    }
-    rig.write(sector, &[byte; 512])
+// Where a rig keeps something.
+#[derive(Clone, Copy)]
+enum Place {
+    Sector(u32),
+    Word(u32),
+    Buffer(u32),
 }
 
-fn get(rig: &mut MemRig, sector: u32) -> Result<u8, Failed> {
-    if sector >= rig.sectors() {
-        return Err(Failed);
+// Puts a number there, if there is such a place: as a word, or as each byte of a sector or buffer.
+fn put(rig: &mut MemRig, place: Place, number: u8) -> Result<(), Failed> {
+    match place {
+        Place::Sector(index) if index < rig.sectors() => rig.write(index, &[number; 512]),
+        Place::Word(index) if index < rig.words() => rig.store_word(index, number as u64),
+        Place::Buffer(index) if index < rig.buffers() => rig.store_buffer(index, &[number; 512]),
+        _ => Err(Failed),
     }
+}
+
+// What is there, of a sector or buffer its last byte.
+fn get(rig: &mut MemRig, place: Place) -> Result<u64, Failed> {
     let mut into = [0; 512];
-    rig.read(sector, &mut into)?;
-    Ok(into[511])
+    match place {
+        Place::Sector(index) if index < rig.sectors() => rig.read(index, &mut into)?,
+        Place::Word(index) if index < rig.words() => return rig.load_word(index),
+        Place::Buffer(index) if index < rig.buffers() => rig.load_buffer(index, &mut into)?,
+        _ => return Err(Failed),
+    }
+    Ok(into[511] as u64)
 }
 
 fn byte_of(rig: &MemRig, sector: usize) -> Option<u8> {
@@ -153,54 +167,24 @@ fn device_calls_do_what_was_planned(rt: HostRuntime) -> Result<(), Fail> {
         assert_eq!(rt; byte_of(&next, 1), Some(bytes[1]));
         rig = next;
     }
-    assert_eq!(rt; get(&mut rig, 1), Ok(7));
+    assert_eq!(rt; get(&mut rig, Place::Sector(1)), Ok(7));
     Ok(())
-}
-
-fn put_word(rig: &mut MemRig, index: u32, word: u64) -> Result<(), Failed> {
-    if index >= rig.words() {
-        return Err(Failed);
-    }
-    rig.store_word(index, word)
-}
-
-fn get_word(rig: &mut MemRig, index: u32) -> Result<u64, Failed> {
-    if index >= rig.words() {
-        return Err(Failed);
-    }
-    rig.load_word(index)
-}
-
-fn put_buffer(rig: &mut MemRig, index: u32, byte: u8) -> Result<(), Failed> {
-    if index >= rig.buffers() {
-        return Err(Failed);
-    }
-    rig.store_buffer(index, &[byte; 512])
-}
-
-fn get_buffer(rig: &mut MemRig, index: u32) -> Result<u8, Failed> {
-    if index >= rig.buffers() {
-        return Err(Failed);
-    }
-    let mut into = [0; 512];
-    rig.load_buffer(index, &mut into)?;
-    Ok(into[511])
 }
 
 #[test]
 fn a_board_keeps_its_memory_or_loses_it(rt: HostRuntime) -> Result<(), Fail> {
     let mut rig = MemRig::new(rt.alloc(), 1, 2)?;
     assert_eq!(rt; (rig.sectors(), rig.words(), rig.buffers()), (1, 3, 2));
-    assert_eq!(rt; put_word(&mut rig, 2, 5), Ok(()));
-    assert_eq!(rt; put_buffer(&mut rig, 1, 6), Ok(()));
+    assert_eq!(rt; put(&mut rig, Place::Word(2), 5), Ok(()));
+    assert_eq!(rt; put(&mut rig, Place::Buffer(1), 6), Ok(()));
     let mut rig = rig.crash(true, 259);
     assert_eq!(rt; rig.kept(), true);
-    assert_eq!(rt; get_word(&mut rig, 2), Ok(5));
-    assert_eq!(rt; get_buffer(&mut rig, 1), Ok(6));
+    assert_eq!(rt; get(&mut rig, Place::Word(2)), Ok(5));
+    assert_eq!(rt; get(&mut rig, Place::Buffer(1)), Ok(6));
     let mut rig = rig.crash(false, 259);
     assert_eq!(rt; rig.kept(), false);
-    assert_eq!(rt; get_word(&mut rig, 2), Ok(259));
-    assert_eq!(rt; get_buffer(&mut rig, 1), Ok(3));
+    assert_eq!(rt; get(&mut rig, Place::Word(2)), Ok(259));
+    assert_eq!(rt; get(&mut rig, Place::Buffer(1)), Ok(3));
     assert_eq!(rt; rig.mark_kept(), Ok(()));
     assert_eq!(rt; rig.kept(), true);
     Ok(())
@@ -238,8 +222,8 @@ fn device_calls_are_counted_from_one_crash_to_the_next(rt: HostRuntime) -> Resul
     let mut rig = MemRig::new(rt.alloc(), 1, 2)?;
     assert_eq!(rt; rig.calls(), 0);
     rig.fail(2, false)?;
-    assert_eq!(rt; put(&mut rig, 0, 1), Ok(()));
-    assert_eq!(rt; put(&mut rig, 0, 2), Err(Failed));
+    assert_eq!(rt; put(&mut rig, Place::Sector(0), 1), Ok(()));
+    assert_eq!(rt; put(&mut rig, Place::Sector(0), 2), Err(Failed));
     assert_eq!(rt; rig.battery(), Battery::Good);
     assert_eq!(rt; rig.mark_kept(), Ok(()));
     assert_eq!(rt; rig.calls(), 3);
@@ -302,7 +286,7 @@ fn a_link_hands_over_its_events_and_keeps_what_is_sent(rt: HostRuntime) -> Resul
     assert_eq!(rt; link.sent().len(), 1);
     if let Some(sent) = link.sent().first() {
         assert_eq!(rt; sent.to, HOME);
-        assert_eq!(rt; sent.bytes.list(), b"ok".as_slice());
+        assert_eq!(rt; sent.bytes.bytes(), b"ok".as_slice());
     }
     Ok(())
 }

@@ -1,7 +1,7 @@
 -- Numbers that `byteorder` reads and writes, as the numbers of this crate.
-use Rattle.std.proofs.Common.{◌≡◌, ℕ, zero, suc, ◌+◌, ◌-◌, ◌*◌, ◌^◌, ◌<◌, ◌≤◌, List, [], ◌∷◌, length, take, drop, get_or, refl, sym, ap, ◌∙◌, arith, length-drop, drop-cons}
+use Rattle.std.proofs.Common.{◌≡◌, ℕ, zero, suc, ◌+◌, ◌-◌, ◌*◌, ◌^◌, ◌<◌, ◌≤◌, All, List, [], ◌∷◌, length, take, drop, get_or, refl, sym, ap, ◌∙◌, arith, length-drop, drop-cons}
 use Rattle.std.proofs.Math.Nat.{mul-le-mul_left, mul-suc}
-use Rattle.std.proofs.lemmas.List.{append-nil, drop-drop, drop-take, length-take-le, take-take, take_all, take_rest, get_or-drop}
+use Rattle.std.proofs.lemmas.List.{append-nil, drop-drop, drop-take, length-take-le, take-take, take_all, take_rest, get_or-drop, get_or_default}
 use Rattle.std.proofs.lemmas.List.FromFn.{fill_by_all}
 use Rattle.byteorder.specs.Endian.{little_number, little_bytes}
 use Rattle.byteorder.specs.Numbers.{length-bytes_low_first, little_from-cons, little_from-lt, little_number-reads_back}
@@ -80,3 +80,9 @@ field-lt bytes at n h room =
     little_from-lt 0 n (drop at bytes) (λ k. let e = get_or-drop at bytes k 0 in let b = h (at + k) in omega (arith, e, b)) in
     let same : little_number n (drop at bytes) ≡ field bytes at n = ap (little_number n) (sym cut) ∙ read in
     omega (arith, below, same)
+
+-- numbers that are below a bound at each place are all below it
+pub all_below : (numbers : List ℕ) (bound : ℕ) → ((k : ℕ) → get_or numbers k 0 < bound) → All (λ number. number < bound) numbers
+all_below numbers bound below k d lt =
+    let same : get_or numbers k d ≡ get_or numbers k 0 = get_or_default numbers k d 0 lt in
+    let here : get_or numbers k 0 < bound = below k in omega (arith, same, here)

@@ -1,9 +1,9 @@
 -- A part of bytes, where bytes are joined end to end or one part is replaced.
 use Rattle.std.proofs.Common.{◌≡◌, ℕ, ◌+◌, ◌-◌, ◌≤◌, List, ◌++◌, length, take, drop, refl, sym, ap, ◌∙◌, arith, length-append, length-drop}
 use Rattle.std.proofs.lemmas.List.{append_assoc, drop-append-le, drop-drop, drop_at, length-take-le, take-append-drop, take-append-le, take_at}
-use Rattle.std.proofs.lemmas.Slice.{drop-put_mid}
+use Rattle.std.proofs.lemmas.Slice.{drop-put_mid, take-put_mid}
 use borrow.Rule.Slice.PartMut.{put_mid}
-use Rattle.v7_layout.specs.Numbers.{part, field, little}
+use Rattle.v7_layout.specs.Numbers.{part, field, little, IsPutAt}
 
 -- a part that lies in the front of joined bytes
 pub part-append_front : (xs ys : List ℕ) (at n : ℕ) → at + n ≤ length xs → part (xs ++ ys) at n ≡ part xs at n
@@ -67,9 +67,12 @@ put_mid-splice at k bytes new e =
     ∙ ap (λ (j : ℕ). take at bytes ++ (new ++ drop (at + j) bytes)) (sym e)
     ∙ sym (append_assoc (take at bytes) new (drop (at + length new) bytes))
 
--- what a write to a sub-slice leaves behind it
-pub rest_kept : (at k n : ℕ) (bytes new : List ℕ) → at + k ≡ n → n ≤ length bytes → length new ≡ k → drop n (put_mid at k bytes new) ≡ drop n bytes
-rest_kept at k n bytes new e h l = drop-put_mid at k bytes new n (omega arith) (omega arith) l
+-- what a write to a sub-slice of n bytes leaves
+pub put_at : (at k n : ℕ) (bytes piece new : List ℕ) → k ≡ n → at + n ≤ length bytes → length new ≡ k → new ≡ piece → IsPutAt at n piece bytes (put_mid at k bytes new)
+put_at at k n bytes piece new e h l same = record {
+  front = take-put_mid at k bytes new (at + n) (omega arith) (omega arith) ∙ ap (λ (put : List ℕ). take at bytes ++ put) same;
+  rest = drop-put_mid at k bytes new (at + n) (omega arith) (omega arith) l;
+}
 
 -- what a sub-slice from a place to its end, n bytes further on, holds
 pub part-cut : (bytes : List ℕ) (at n : ℕ) → take (at + n - at) (drop at bytes) ≡ part bytes at n

@@ -1,6 +1,7 @@
 -- Numbers in bytes, low byte first.
-use Rattle.std.specs.Prelude.{ℕ, ◌+◌, ◌*◌, List, [], ◌∷◌, take, drop, map, replicate}
-use Rattle.std.specs.List.{range_with_len}
+use Rattle.std.specs.Prelude.{◌≡◌, ◌<◌, ℕ, ◌+◌, ◌*◌, ◌^◌, All, List, [], ◌∷◌, ◌++◌, take, drop, map, replicate}
+use Rattle.std.specs.List.{flat_map, range_with_len}
+use Rattle.byteorder.specs.Endian.{little_bytes}
 
 -- a number, low byte first
 abbrev pub little : List ℕ → ℕ
@@ -22,3 +23,18 @@ fields bytes at n count = map (λ k. field bytes (at + n * k) n) (range_with_len
 -- as many zero bytes
 unfoldable pub zeros : ℕ → List ℕ
 zeros n = replicate n 0
+
+-- n bytes from a place on are replaced by a piece, and those before and past them stay
+pub record IsPutAt (at n : ℕ) (piece old new : List ℕ) : Type 0 where
+  pub front : take (at + n) new ≡ take at old ++ piece
+  pub rest : drop (at + n) new ≡ drop (at + n) old
+
+-- a number of n bytes stands at a place, and all else stays
+pub record IsNumberPutAt (at n number : ℕ) (old new : List ℕ) : Type 0 where
+  pub put : IsPutAt at n (little_bytes n number) old new
+  pub fits : number < 256 ^ n
+
+-- as many numbers of n bytes each stand one after the other from a place on, and all else stays
+pub record AreNumbersPutAt (at n count : ℕ) (numbers old new : List ℕ) : Type 0 where
+  pub put : IsPutAt at (n * count) (flat_map (little_bytes n) numbers) old new
+  pub fits : All (λ number. number < 256 ^ n) numbers

@@ -1,10 +1,11 @@
 // The chain record, a block of the free chain.
 
-ghost use Rattle.std.specs.Prelude.{◌≡◌, length};
+ghost use Rattle.std.specs.Prelude.{⊤};
 ghost use Rattle.v7_layout.specs.Records.{chain_of};
 ghost use Rattle.v7_layout.specs.Written.{chain_bytes};
 
 use crate::fields::{blocks_at, put_blocks, put_short, put_zeros, short_at};
+use crate::shared::Record;
 
 /// A chain record as the 512 bytes of a free block have it (filsys(5)). It takes the place of the
 /// super-block's list of free blocks once that list is used up.
@@ -16,13 +17,18 @@ pub struct Chain {
     pub s_free: [u32; 50],
 }
 
-impl Chain {
+impl Record for Chain {
+    ghost size = { 512 };
+
+    ghost of = { chain_of };
+
+    ghost fits = { λ any. ⊤ };
+
+    ghost written = { chain_bytes };
+
     /// The chain record of 512 bytes. Any bytes are one, and the last 310 are passed over.
     #[tactic(auto, unfolding(crate::specs::Records::chain_of))]
-    pub fn read(bytes: &[u8]) -> Self
-        requires { length bytes.now ≡ 512 }
-        ensures { result ≡ chain_of bytes.now }
-    {
+    fn read(bytes: &[u8]) -> Self {
         Chain {
             s_nfree: short_at(bytes, 0),
             s_free: blocks_at(bytes, 2),
@@ -30,11 +36,7 @@ impl Chain {
     }
 
     /// Writes the chain record as 512 bytes, of which the last 310 are zeros.
-    pub fn write(&self, bytes: &mut [u8])
-        requires { length bytes.old ≡ 512 }
-        ensures bytes { bytes.new ≡ chain_bytes self.now }
-        ensures reads_back { chain_of bytes.new ≡ self.now }
-    {
+    fn write(&self, bytes: &mut [u8]) {
         put_short(bytes, 0, self.s_nfree);
         put_blocks(bytes, 2, &self.s_free);
         put_zeros(bytes, 202);

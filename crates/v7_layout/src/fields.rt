@@ -3,7 +3,7 @@
 ghost use Rattle.std.specs.Prelude.{◌≡◌, ◌+◌, ◌*◌, ◌^◌, ◌<◌, ◌≤◌, ◌++◌, length, take, drop, All, ◌-◌};
 ghost use Rattle.std.specs.List.{flat_map};
 ghost use Rattle.byteorder.specs.Endian.{little_bytes};
-ghost use Rattle.v7_layout.specs.Numbers.{part, field, fields, zeros};
+ghost use Rattle.v7_layout.specs.Numbers.{part, field, fields, zeros, IsPutAt, IsNumberPutAt, AreNumbersPutAt};
 
 use byteorder::{ByteOrder, LittleEndian};
 
@@ -84,34 +84,26 @@ pub(crate) fn bytes_at<const N: usize>(bytes: &[u8], at: usize) -> [u8; N]
 }
 
 /// Writes a number of two bytes at a place.
-#[tactic(auto, using(crate::proofs::Parts::rest_kept))]
 pub(crate) fn put_short(bytes: &mut [u8], at: usize, number: u16)
     requires { at + 2 ≤ length bytes.old }
-    ensures front { take (at + 2) bytes.new ≡ take at bytes.old ++ little_bytes 2 number }
-    ensures rest { drop (at + 2) bytes.new ≡ drop (at + 2) bytes.old }
-    ensures fits { number < 2 ^ 16 }
+    ensures { IsNumberPutAt at 2 number bytes.old bytes.new }
 {
     LittleEndian::write_u16(&mut bytes[at..at + 2], number);
 }
 
 /// Writes an address of three bytes at a place.
-#[tactic(auto, using(crate::proofs::Parts::rest_kept))]
 pub(crate) fn put_address(bytes: &mut [u8], at: usize, address: u32)
     requires room { at + 3 ≤ length bytes.old }
     requires fits { address < 2 ^ 24 }
-    ensures front { take (at + 3) bytes.new ≡ take at bytes.old ++ little_bytes 3 address }
-    ensures rest { drop (at + 3) bytes.new ≡ drop (at + 3) bytes.old }
+    ensures { IsNumberPutAt at 3 address bytes.old bytes.new }
 {
     LittleEndian::write_u24(&mut bytes[at..at + 3], address);
 }
 
 /// Writes a number of four bytes at a place.
-#[tactic(auto, using(crate::proofs::Parts::rest_kept))]
 pub(crate) fn put_long(bytes: &mut [u8], at: usize, number: u32)
     requires { at + 4 ≤ length bytes.old }
-    ensures front { take (at + 4) bytes.new ≡ take at bytes.old ++ little_bytes 4 number }
-    ensures rest { drop (at + 4) bytes.new ≡ drop (at + 4) bytes.old }
-    ensures fits { number < 2 ^ 32 }
+    ensures { IsNumberPutAt at 4 number bytes.old bytes.new }
 {
     LittleEndian::write_u32(&mut bytes[at..at + 4], number);
 }
@@ -120,8 +112,7 @@ pub(crate) fn put_long(bytes: &mut [u8], at: usize, number: u32)
 pub(crate) fn put_addresses(bytes: &mut [u8], at: usize, addresses: &[u32; 10])
     requires room { at + 30 ≤ length bytes.old }
     requires fits { All (λ address. address < 2 ^ 24) addresses.now }
-    ensures front { take (at + 30) bytes.new ≡ take at bytes.old ++ flat_map (little_bytes 3) addresses.now }
-    ensures rest { drop (at + 30) bytes.new ≡ drop (at + 30) bytes.old }
+    ensures { AreNumbersPutAt at 3 10 addresses.now bytes.old bytes.new }
 {
     for k in 0..10 {
         put_address(bytes, at + 3 * k, addresses[k]);
@@ -129,33 +120,25 @@ pub(crate) fn put_addresses(bytes: &mut [u8], at: usize, addresses: &[u32; 10])
 }
 
 /// Writes fifty numbers of four bytes each, from a place on.
-#[tactic(auto, using(crate::proofs::Parts::rest_kept))]
 pub(crate) fn put_blocks(bytes: &mut [u8], at: usize, blocks: &[u32; 50])
     requires { at + 200 ≤ length bytes.old }
-    ensures front { take (at + 200) bytes.new ≡ take at bytes.old ++ flat_map (little_bytes 4) blocks.now }
-    ensures rest { drop (at + 200) bytes.new ≡ drop (at + 200) bytes.old }
-    ensures fits { All (λ block. block < 2 ^ 32) blocks.now }
+    ensures { AreNumbersPutAt at 4 50 blocks.now bytes.old bytes.new }
 {
     LittleEndian::write_u32_into(blocks, &mut bytes[at..at + 200]);
 }
 
 /// Writes a hundred numbers of two bytes each, from a place on.
-#[tactic(auto, using(crate::proofs::Parts::rest_kept))]
 pub(crate) fn put_numbers(bytes: &mut [u8], at: usize, numbers: &[u16; 100])
     requires { at + 200 ≤ length bytes.old }
-    ensures front { take (at + 200) bytes.new ≡ take at bytes.old ++ flat_map (little_bytes 2) numbers.now }
-    ensures rest { drop (at + 200) bytes.new ≡ drop (at + 200) bytes.old }
-    ensures fits { All (λ number. number < 2 ^ 16) numbers.now }
+    ensures { AreNumbersPutAt at 2 100 numbers.now bytes.old bytes.new }
 {
     LittleEndian::write_u16_into(numbers, &mut bytes[at..at + 200]);
 }
 
 /// Writes bytes as they are, from a place on.
-#[tactic(auto, using(crate::proofs::Parts::rest_kept))]
 pub(crate) fn put_bytes(bytes: &mut [u8], at: usize, part: &[u8])
     requires { at + length part.now ≤ length bytes.old }
-    ensures front { take (at + length part.now) bytes.new ≡ take at bytes.old ++ part.now }
-    ensures rest { drop (at + length part.now) bytes.new ≡ drop (at + length part.now) bytes.old }
+    ensures { IsPutAt at (length part.now) part.now bytes.old bytes.new }
 {
     bytes[at..at + part.len()].copy_from_slice(part);
 }

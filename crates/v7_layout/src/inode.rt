@@ -1,12 +1,12 @@
 // The inode, 64 bytes of a sector of the i-list.
 
-ghost use Rattle.std.specs.Prelude.{◌≡◌, length};
 ghost use Rattle.v7_layout.specs.Records.{inode_of};
 ghost use Rattle.v7_layout.specs.Written.{inode_bytes, AddressesFit};
 
 use crate::fields::{
     address_at, addresses_at, long_at, put_address, put_addresses, put_long, put_short, short_at,
 };
+use crate::shared::Record;
 
 /// An inode as its 64 bytes have it (filsys(5), with this project's own layout).
 ///
@@ -40,14 +40,18 @@ pub struct Inode {
     pub ctime: u32,
 }
 
-impl Inode {
+impl Record for Inode {
+    ghost size = { 64 };
+
+    ghost of = { inode_of };
+
+    ghost fits = { AddressesFit };
+
+    ghost written = { inode_bytes };
+
     /// The inode of 64 bytes. Any bytes are one, and it can be written again.
     #[tactic(auto, unfolding(crate::specs::Records::inode_of, crate::specs::Numbers::fields))]
-    pub fn read(bytes: &[u8]) -> Self
-        requires { length bytes.now ≡ 64 }
-        ensures inode { result ≡ inode_of bytes.now }
-        ensures addresses { AddressesFit result }
-    {
+    fn read(bytes: &[u8]) -> Self {
         Inode {
             mode: short_at(bytes, 0),
             nlink: short_at(bytes, 2),
@@ -66,12 +70,7 @@ impl Inode {
 
     /// Writes the inode as 64 bytes. Each of its twelve addresses has to be below 16,777,216, since an
     /// address has three bytes.
-    pub fn write(&self, bytes: &mut [u8])
-        requires length { length bytes.old ≡ 64 }
-        requires addresses { AddressesFit self.now }
-        ensures bytes { bytes.new ≡ inode_bytes self.now }
-        ensures reads_back { inode_of bytes.new ≡ self.now }
-    {
+    fn write(&self, bytes: &mut [u8]) {
         put_short(bytes, 0, self.mode);
         put_short(bytes, 2, self.nlink);
         put_short(bytes, 4, self.uid);

@@ -4,11 +4,13 @@
 mod chain;
 mod fields;
 mod inode;
+mod shared;
 mod slot;
 mod super_block;
 
 pub use chain::Chain;
 pub use inode::Inode;
+pub use shared::Record;
 pub use slot::Slot;
 pub use super_block::Super;
 

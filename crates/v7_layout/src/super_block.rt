@@ -1,6 +1,6 @@
 // The super-block, sector 1 of a volume.
 
-ghost use Rattle.std.specs.Prelude.{◌≡◌, length};
+ghost use Rattle.std.specs.Prelude.{⊤};
 ghost use Rattle.v7_layout.specs.Records.{super_of};
 ghost use Rattle.v7_layout.specs.Written.{super_bytes};
 
@@ -8,6 +8,7 @@ use crate::fields::{
     blocks_at, byte_at, bytes_at, long_at, numbers_at, put_blocks, put_bytes, put_long,
     put_numbers, put_short, put_zeros, short_at,
 };
+use crate::shared::Record;
 
 /// A super-block as the 512 bytes of sector 1 have it (filsys(5), with this project's own layout).
 ///
@@ -52,13 +53,18 @@ pub struct Super {
     pub mark: u32,
 }
 
-impl Super {
+impl Record for Super {
+    ghost size = { 512 };
+
+    ghost of = { super_of };
+
+    ghost fits = { λ any. ⊤ };
+
+    ghost written = { super_bytes };
+
     /// The super-block of 512 bytes. Any bytes are one, and the last 68 are passed over.
     #[tactic(auto, unfolding(crate::specs::Records::super_of))]
-    pub fn read(bytes: &[u8]) -> Self
-        requires { length bytes.now ≡ 512 }
-        ensures { result ≡ super_of bytes.now }
-    {
+    fn read(bytes: &[u8]) -> Self {
         Super {
             s_isize: short_at(bytes, 0),
             s_fsize: long_at(bytes, 2),
@@ -82,11 +88,7 @@ impl Super {
     }
 
     /// Writes the super-block as 512 bytes, of which the last 68 are zeros.
-    pub fn write(&self, bytes: &mut [u8])
-        requires { length bytes.old ≡ 512 }
-        ensures bytes { bytes.new ≡ super_bytes self.now }
-        ensures reads_back { super_of bytes.new ≡ self.now }
-    {
+    fn write(&self, bytes: &mut [u8]) {
         put_short(bytes, 0, self.s_isize);
         put_long(bytes, 2, self.s_fsize);
         put_short(bytes, 6, self.s_nfree);

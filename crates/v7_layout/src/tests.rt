@@ -1,6 +1,6 @@
 // The records of worked volumes, against bytes that were written out by hand.
 
-use crate::{Chain, Inode, Slot, Super};
+use crate::{Chain, Inode, Record, Slot, Super};
 use std::test::Fail;
 
 #[test]
@@ -33,6 +33,12 @@ fn an_inode_is_read_and_written(rt: HostRuntime) -> Result<(), Fail> {
     Ok(())
 }
 
+fn super_bytes(super_block: &Super) -> [u8; 512] {
+    let mut written = [0xff; 512];
+    super_block.write(&mut written);
+    written
+}
+
 #[test]
 fn a_super_block_is_read_and_written(rt: HostRuntime) -> Result<(), Fail> {
     let mut bytes = [0; 512];
@@ -62,9 +68,7 @@ fn a_super_block_is_read_and_written(rt: HostRuntime) -> Result<(), Fail> {
     assert_eq!(rt; super_block.s_tinode, 14);
     assert_eq!(rt; super_block.s_fpack, *b"VOLA00");
     assert_eq!(rt; super_block.mark, 1);
-    let mut written = [0xff; 512];
-    super_block.write(&mut written);
-    assert_eq!(rt; written, bytes);
+    assert_eq!(rt; super_bytes(&super_block), bytes);
     Ok(())
 }
 

@@ -15,7 +15,7 @@ use crate::places::{inode_in, inode_sector_of};
 use crate::super_block::has_inode;
 use files_model::FileId;
 use stable::{Failed, Stable};
-use v7_layout::Super;
+use v7_layout::{Record, Super};
 
 /// Looks up the file of a handle; none is found where the handle is stale. A damaged volume is read too: a size above the limit is taken as the
 /// limit, and an inode past the store's end is none.

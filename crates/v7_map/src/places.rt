@@ -6,7 +6,7 @@ ghost use Rattle.v7_layout.specs.Records.{inode_of};
 ghost use Rattle.v7_layout.specs.Written.{AddressesFit};
 ghost use Rattle.v7_map.specs.Image.{inode_sector, inode_offset};
 
-use v7_layout::Inode;
+use v7_layout::{Inode, Record};
 
 /// The sector of an inode. Inodes are numbered from 1, and stand eight to a sector from sector 2 on.
 pub fn inode_sector_of(ino: u32) -> u32

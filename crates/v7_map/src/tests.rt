@@ -6,7 +6,7 @@ use stable::NoMemory;
 use std::alloc::Global;
 use std::test::Fail;
 use store_mem::Memory;
-use v7_layout::Inode;
+use v7_layout::{Inode, Record};
 
 #[test]
 fn inodes_stand_eight_to_a_sector(rt: HostRuntime) -> Result<(), Fail> {

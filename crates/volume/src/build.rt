@@ -8,7 +8,7 @@ ghost use Rattle.volume.specs.Writes.{AddsSector, HasGrown, AddsTouched, CanRun,
 
 use crate::fault::BuildFault;
 use stable::{Plan, Stable};
-use v7_layout::Inode;
+use v7_layout::{Inode, Record};
 use v7_map::{Found, body_sector, inode_offset_of, sectors_of, splice};
 
 /// The first sector past the super-block. A file has none before it, whatever a damaged volume says.

@@ -7,7 +7,7 @@ ghost use Rattle.volume.specs.Opens.{Opens};
 use crate::fault::OpenFault;
 use files_model::FileId;
 use stable::Stable;
-use v7_layout::Super;
+use v7_layout::{Record, Super};
 use v7_map::{get_sector, has_sizes, inode_in, inode_sector_of};
 
 /// The number of the root directory (filsys(5)).

@@ -8,7 +8,7 @@ use stable::{Answer, Battery, Command, FlushAnswer, NoMemory, State};
 use std::alloc::Global;
 use std::test::Fail;
 use store_mem::Memory;
-use v7_layout::{Inode, Super};
+use v7_layout::{Inode, Record, Super};
 
 const FILE: FileId = FileId {
     ino: 3,

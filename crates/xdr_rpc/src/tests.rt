@@ -65,8 +65,8 @@ fn the_caller_of_a_call(rt: HostRuntime) -> Result<(), Fail> {
     let call = read_changed(rt.alloc(), 12, 65536, 116)?.ok_or("a call")?;
     assert_eq!(rt; (call.xid, call.program, call.procedure), (7, 100003, 8));
     assert_eq!(rt; (call.cred.uid, call.cred.gid), (100, 65534));
-    assert!(rt; call.cred.gids.list().is_empty());
-    assert_eq!(rt; call.machine.list(), b"c".as_slice());
+    assert!(rt; call.cred.gids.ids().is_empty());
+    assert_eq!(rt; call.machine.bytes(), b"c".as_slice());
     assert_eq!(rt; call.args.bytes().len(), 52);
     Ok(())
 }

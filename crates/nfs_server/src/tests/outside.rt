@@ -91,7 +91,7 @@ pub fn has_said(host: &Host, wanted: &[&str]) -> bool {
 // Whether these are one datagram to the client.
 fn is_sent(sent: &[SentDatagram], wanted: &[u8]) -> bool {
     match sent {
-        [one] => one.to == CLIENT && one.bytes.list() == wanted,
+        [one] => one.to == CLIENT && one.bytes.bytes() == wanted,
         _ => false,
     }
 }
@@ -110,7 +110,7 @@ fn are_sent(sent: &[SentDatagram], wanted: &[Vec<u8>]) -> bool {
         return false;
     }
     for (one, bytes) in sent.iter().zip(wanted.iter()) {
-        if one.to != CLIENT || one.bytes.list() != bytes.as_slice() {
+        if one.to != CLIENT || one.bytes.bytes() != bytes.as_slice() {
             return false;
         }
     }

@@ -6,7 +6,7 @@ use rig::Address;
 use rig_mem::MemRig;
 use std::alloc::Global;
 use std::test::Fail;
-use v7_layout::{Inode, Super};
+use v7_layout::{Inode, Record, Super};
 
 pub const CLIENT: Address = Address {
     ip: [9; 16],

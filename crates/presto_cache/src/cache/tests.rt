@@ -120,6 +120,14 @@ fn a_second_put_fills_another_buffer_and_replaces_the_word(rt: HostRuntime) -> R
     Ok(())
 }
 
+// The answer to the puts of sector 5, and what it is after a crash that the board survived.
+fn put_and_crash(alloc: Global, rig: MemRig, second: Option<u8>) -> (Option<Keep>, Option<u8>) {
+    let mut rig = rig;
+    let kept = put(alloc, &mut rig, 1, second);
+    let mut left = rig.crash(true, 0);
+    (kept, shown(alloc, &mut left, 5))
+}
+
 // A device call by its number, what a failure or a cut leaves of it, and what sector 5 then is.
 const CUT: [(u64, bool, Option<u8>, u8); 8] = [
     (11, false, None, 0),
@@ -135,28 +143,17 @@ const CUT: [(u64, bool, Option<u8>, u8); 8] = [
 #[test]
 fn a_put_that_fails_or_is_cut_leaves_its_sector_old_or_new(rt: HostRuntime) -> Result<(), Fail> {
     for (number, newer, second, want) in CUT {
+        let wanted = (Some(Keep::Failed), Some(want));
         let mut failing = formatted(rt.alloc())?;
         failing.fail(number, newer)?;
-        assert_eq!(rt;
-            put(rt.alloc(), &mut failing, 1, second),
-            Some(Keep::Failed)
-        );
-        let mut left = failing.crash(true, 0);
-        assert_eq!(rt;
-            shown(rt.alloc(), &mut left, 5),
-            Some(want),
+        assert!(rt;
+            put_and_crash(rt.alloc(), failing, second) == wanted,
             "call {number} failed"
         );
         let mut stopped = formatted(rt.alloc())?;
         stopped.stop_at(number, newer);
-        assert_eq!(rt;
-            put(rt.alloc(), &mut stopped, 1, second),
-            Some(Keep::Failed)
-        );
-        let mut left = stopped.crash(true, 0);
-        assert_eq!(rt;
-            shown(rt.alloc(), &mut left, 5),
-            Some(want),
+        assert!(rt;
+            put_and_crash(rt.alloc(), stopped, second) == wanted,
             "call {number} was cut"
         );
     }

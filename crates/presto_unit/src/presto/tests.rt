@@ -116,16 +116,27 @@ fn a_broken_sector_goes_to_error_and_is_reset_once_it_is_healed(
     Ok(())
 }
 
+// Whether three entries are flushed, one after the other.
+fn flushes_three(unit: &mut Presto<MemRig>) -> bool {
+    let mut flushed = true;
+    for _entry in 0..3 {
+        flushed = unit.flush_one() == FlushAnswer::Flushed && flushed;
+    }
+    flushed
+}
+
+// Whether a poll reads what the battery says, and leads to this state.
+fn polls(unit: &mut Presto<MemRig>, battery: Battery, state: State) -> bool {
+    unit.set_battery(battery);
+    unit.poll() == battery && unit.state() == state
+}
+
 #[test]
 fn a_low_battery_sends_all_to_the_disk(rt: HostRuntime) -> Result<(), Fail> {
     let rig = formatted(rt.alloc())?;
     let mut unit = three_dirty(rt.alloc(), rig).ok_or("opening")?;
-    unit.set_battery(Battery::Low);
-    assert!(rt; unit.poll() == Battery::Low);
-    assert!(rt; unit.state() == State::Error(Cause::Battery));
-    for _entry in 0..3 {
-        assert!(rt; unit.flush_one() == FlushAnswer::Flushed);
-    }
+    assert!(rt; polls(&mut unit, Battery::Low, State::Error(Cause::Battery)));
+    assert!(rt; flushes_three(&mut unit));
     assert!(rt; unit.flush_one() == FlushAnswer::Nothing);
     let shown = unit.snapshot();
     assert!(rt; shown.polls == 1 && shown.ups == 1 && shown.tries == 3 && shown.puts == 3);
@@ -137,18 +148,10 @@ fn a_low_battery_sends_all_to_the_disk(rt: HostRuntime) -> Result<(), Fail> {
 
 #[test]
 fn a_good_battery_leads_back_to_up(rt: HostRuntime) -> Result<(), Fail> {
-    let rig = formatted(rt.alloc())?;
-    let mut unit = three_dirty(rt.alloc(), rig).ok_or("opening")?;
-    unit.set_battery(Battery::Low);
-    assert!(rt; unit.poll() == Battery::Low);
-    unit.set_battery(Battery::Good);
-    assert!(rt; unit.poll() == Battery::Good);
-    assert!(rt; unit.state() == State::Error(Cause::Battery));
-    for _entry in 0..3 {
-        assert!(rt; unit.flush_one() == FlushAnswer::Flushed);
-    }
-    assert!(rt; unit.poll() == Battery::Good);
-    assert!(rt; unit.state() == State::Up);
+    let mut unit = three_dirty(rt.alloc(), formatted(rt.alloc())?).ok_or("opening")?;
+    assert!(rt; polls(&mut unit, Battery::Low, State::Error(Cause::Battery)));
+    assert!(rt; polls(&mut unit, Battery::Good, State::Error(Cause::Battery)));
+    assert!(rt; flushes_three(&mut unit) && polls(&mut unit, Battery::Good, State::Up));
     assert!(rt; unit.command(Command::Down) == Answer::Done);
     unit.set_battery(Battery::Low);
     assert!(rt; unit.command(Command::Up) == Answer::BatteryLow);

@@ -6,7 +6,7 @@ ghost use Rattle.rig.specs.Looked.{Looked, Stays, StaysOffDisk};
 ghost use Rattle.stable.specs.Moments.{LeavesOnly};
 
 use super::MemRig;
-use crate::change::{change_buffer, change_kept, change_sector, change_word};
+use crate::change::{Change, change_kept};
 use crate::fault::takes;
 use rig::{Battery, Failed, Rig};
 
@@ -147,7 +147,11 @@ impl Rig for MemRig {
         let Some(takes) = takes(fate) else {
             return Err(Failed);
         };
-        if change_sector(&mut self.disk, &mut self.history, sector, bytes, takes).is_err() {
+        let change = Change::of_sector(&self.disk, sector, bytes);
+        let kept = self
+            .history
+            .put(&mut self.disk, change, sector, *bytes, takes);
+        if kept.is_err() {
             self.trouble.count_fault();
             return Err(Failed);
         }
@@ -185,7 +189,11 @@ impl Rig for MemRig {
         let Some(takes) = takes(fate) else {
             return Err(Failed);
         };
-        if change_word(&mut self.words, &mut self.history, index, word, takes).is_err() {
+        let change = Change::of_word(&self.words, index, word);
+        let kept = self
+            .history
+            .put(&mut self.words, change, index, word, takes);
+        if kept.is_err() {
             self.trouble.count_fault();
             return Err(Failed);
         }
@@ -223,7 +231,11 @@ impl Rig for MemRig {
         let Some(takes) = takes(fate) else {
             return Err(Failed);
         };
-        if change_buffer(&mut self.buffers, &mut self.history, index, bytes, takes).is_err() {
+        let change = Change::of_buffer(&self.buffers, index);
+        let kept = self
+            .history
+            .put(&mut self.buffers, change, index, *bytes, takes);
+        if kept.is_err() {
             self.trouble.count_fault();
             return Err(Failed);
         }

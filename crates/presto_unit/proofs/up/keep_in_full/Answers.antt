@@ -1,4 +1,4 @@
-use Rattle.std.proofs.Common.{◌≡◌, ◌≢◌, arith, refl, inl, sym, ◌∙◌, ap, subst, set, ℕ, List, None}
+use Rattle.std.proofs.Common.{◌≡◌, ◌≢◌, arith, refl, inl, sym, ◌∙◌, ap, subst, set, rules, ℕ, List, None}
 use Rattle.stable.proofs.Clocked.{weaker, ends}
 use Rattle.presto_cache.specs.Slots.{place_in}
 use Rattle.presto_cache.specs.declared.slot.Slot.{Slot}
@@ -17,10 +17,10 @@ unreachable-requires g c =
     let some = (law.board c.args.rig.now).some_buffers c.requires.board in
     full_oldest c.args.cache.now c.args.sector (omega (arith, some, c.requires.knows.suits.buffers)) c.requires.full (sym c.oldest.ensures.oldest ∙ c.in-None.is)
 
-pub returns-in_err-flush_oldest-in-Some-clause-few : goal.returns-in_err-flush_oldest-in-Some-clause-few
-returns-in_err-flush_oldest-in-Some-clause-few g c =
+pub returns-in_err-flush_oldest-in-Some-clause-kept : goal.returns-in_err-flush_oldest-in-Some-clause-kept
+returns-in_err-flush_oldest-in-Some-clause-kept g c =
     let few = sent_few c.args.cache.now c.flush_oldest.new.cache c.in-Some.index c.flush_oldest.result c.in-Some.ensures.dirty.0 c.in-Some.ensures.dirty.1 (sym c.oldest.ensures.oldest ∙ c.in-Some.is) c.flush_oldest.ensures.tried in
-    omega (arith, few)
+    record { knows = c.flush_oldest.ensures.knows; done = search rules; few = omega (arith, few); device = search rules }
 
 pub returns-in_err-flush_oldest-in-Some-clause-crash : goal.returns-in_err-flush_oldest-in-Some-clause-crash
 returns-in_err-flush_oldest-in-Some-clause-crash g c =
@@ -34,28 +34,30 @@ keep_now-requires-clause-room g c =
     let slots = c.args.cache.now.slots.items in
     subst (λ (l : List Slot). place_in l c.args.sector ≢ None) (sym c.in_ok-flush_oldest-in-Some.ensures.tried.slots) (room_after slots c.args.sector c.in-Some.index c.in-Some.ensures.dirty.0)
 
-pub returns-clause-few : goal.returns-clause-few
-returns-clause-few g c =
-    let few = sent_few c.args.cache.now c.flush_oldest.new.cache c.in-Some.index c.flush_oldest.result c.in-Some.ensures.dirty.0 c.in-Some.ensures.dirty.1 (sym c.oldest.ensures.oldest ∙ c.in-Some.is) c.flush_oldest.ensures.tried in
-    omega (arith, few, c.keep_now.ensures.few)
-
-pub returns-clause-done : goal.returns-clause-done
-returns-clause-done g c =
+pub returns-clause-kept : goal.returns-clause-kept
+returns-clause-kept g c =
     let law = g.met.R.Rig in
     let slots = c.args.cache.now.slots.items in
     let oldest = sym c.oldest.ensures.oldest ∙ c.in-Some.is in
     let sent = c.in_ok-flush_oldest-in-Some.ensures.tried in
     let room : place_in c.flush_oldest.new.cache.slots.items c.args.sector ≢ None = subst (λ (l : List Slot). place_in l c.args.sector ≢ None) (sym sent.slots) (room_after slots c.args.sector c.in-Some.index c.in-Some.ensures.dirty.0) in
-    on_ok (λ done. record {
-      put = record {
-        kept = λ place. absurd (place c.requires.full);
-        full = λ _. record { index = c.in-Some.index; mid = c.flush_oldest.new.cache; oldest = oldest; sent = sent; kept = done.put.kept room };
-      };
-      stands = done.stands;
-      sure = done.sure;
-      image = λ tells. done.image tells ∙ ap (λ (l : List (List ℕ)). set l c.args.sector c.args.bytes.now) ((ends law.clocked c.flush_oldest.ensures.crash tells).keeps.image _ (inl refl));
-    })
-    c.keep_now.result c.keep_now.ensures.done
+    let few = sent_few c.args.cache.now c.flush_oldest.new.cache c.in-Some.index c.flush_oldest.result c.in-Some.ensures.dirty.0 c.in-Some.ensures.dirty.1 oldest c.flush_oldest.ensures.tried in
+    let kept = c.keep_now.ensures.kept in
+    record {
+      knows = kept.knows;
+      done = on_ok (λ done. record {
+        put = record {
+          kept = λ place. absurd (place c.requires.full);
+          full = λ _. record { index = c.in-Some.index; mid = c.flush_oldest.new.cache; oldest = oldest; sent = sent; kept = done.put.kept room };
+        };
+        stands = done.stands;
+        sure = done.sure;
+        image = λ tells. done.image tells ∙ ap (λ (l : List (List ℕ)). set l c.args.sector c.args.bytes.now) ((ends law.clocked c.flush_oldest.ensures.crash tells).keeps.image _ (inl refl));
+      })
+          c.keep_now.result kept.done;
+      few = omega (arith, few, kept.few);
+      device = search rules;
+    }
 
 pub returns-clause-crash : goal.returns-clause-crash
 returns-clause-crash g c =

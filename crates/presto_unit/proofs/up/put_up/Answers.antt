@@ -24,7 +24,7 @@ returns-in-Err-clause-done g c tells =
     c.put_through.result c.put_through.ensures.done
 
 pub returns-in-Err-clause-few : goal.returns-in-Err-clause-few
-returns-in-Err-clause-few g c = omega (arith, c.keep_up.ensures.few, c.put_through.ensures.adds.count)
+returns-in-Err-clause-few g c = omega (arith, c.keep_up.ensures.kept.few, c.put_through.ensures.adds.count)
 
 pub returns-in-Err-clause-goes : goal.returns-in-Err-clause-goes
 returns-in-Err-clause-goes g c =
@@ -34,11 +34,11 @@ returns-in-Err-clause-goes g c =
     let bytes = c.args.bytes.now in
     let o = oldest_sector (entries_of c.args.cache.now) in
     let old = overlay (r.contents c.args.rig.now) in
-    let left : c.happen.new.self.state ≢ Up = λ up. failed_leaves c.args.track.now.state c.in-Err.cause c.in-Err.ensures.device.failed.0 (sym (c.happen.ensures.state ∙ ap (λ (h : Happening). after c.args.track.now.state h) c.failing.ensures) ∙ up) in
+    let left : c.happen.new.self.state ≢ Up = λ up. failed_leaves c.args.track.now.state c.in-Err.cause c.in-Err.ensures.kept.device.failed.0 (sym (c.happen.ensures.state ∙ ap (λ (h : Happening). after c.args.track.now.state h) c.failing.ensures) ∙ up) in
     record {
       up = λ from to. absurd (left to);
       quiet = λ from to room. absurd (left to);
-      stays = λ from none. absurd (none (omega (arith, c.in-Err.ensures.device.failed.1, c.put_through.ensures.cause.later)));
+      stays = λ from none. absurd (none (omega (arith, c.in-Err.ensures.kept.device.failed.1, c.put_through.ensures.cause.later)));
       past = λ not. on_ok (λ done. record {
         stands = done.stands;
         free = done.free;

@@ -33,7 +33,7 @@ further a b xs ys h e =
 pub loop-k-preserved : goal.loop-k-preserved
 loop-k-preserved c = (
   one_more 3 c.args.at c.loop-k.k c.put_address.new.bytes c.loop-k.bytes (take c.args.at c.args.bytes.now) c.args.addresses.now
-      (omega arith) c.put_address.ensures.front c.loop-k.invariant.0,
-  further (c.args.at + 3 * c.loop-k.k + 3) (c.args.at + 30) c.put_address.new.bytes c.loop-k.bytes (omega arith) c.put_address.ensures.rest
+      (omega arith) c.put_address.ensures.put.front c.loop-k.invariant.0,
+  further (c.args.at + 3 * c.loop-k.k + 3) (c.args.at + 30) c.put_address.new.bytes c.loop-k.bytes (omega arith) c.put_address.ensures.put.rest
       ∙ c.loop-k.invariant.1,
 )

@@ -20,7 +20,7 @@ pub returns-then-not-has_inode-clause-found : goal.returns-then-not-has_inode-cl
 returns-then-not-has_inode-clause-found g c = λ tells strong.
     let S = g.S.Stable in
     let image = S.image c.args.store.now in
-    let super : c.read-super_block.result ≡ super_of (sector_at image 1) = c.read-super_block.ensures ∙ ap super_of (c.in_ok-get_sector.ensures.done tells) in
+    let super : c.read-super_block.result ≡ super_of (sector_at image 1) = c.read-super_block.ensures.record_of ∙ ap super_of (c.in_ok-get_sector.ensures.done tells) in
     let none : is_inode image c.args.file.ino ≡ false = sym (number-read image strong c.read-super_block.result c.args.file.ino super) ∙ search rules in
     finds_no_inode image strong c.args.file none
 
@@ -28,7 +28,7 @@ pub returns-then-place-sectors-clause-found : goal.returns-then-place-sectors-cl
 returns-then-place-sectors-clause-found g c = λ tells strong.
     let S = g.S.Stable in
     let image = S.image c.args.store.now in
-    let super : c.read-super_block.result ≡ super_of (sector_at image 1) = c.read-super_block.ensures ∙ ap super_of (c.in_ok-get_sector.ensures.done tells) in
+    let super : c.read-super_block.result ≡ super_of (sector_at image 1) = c.read-super_block.ensures.record_of ∙ ap super_of (c.in_ok-get_sector.ensures.done tells) in
     let inside : is_inode image c.args.file.ino ≡ true = sym (number-read image strong c.read-super_block.result c.args.file.ino super) ∙ search rules in
     let shape = as_long g.S.Stable.sector_count g.met.S.Stable.clocked g.met.S.Stable.shape c.args.store.now tells in
     let long : length image ≡ S.sector_count c.args.store.now = shape.size in
@@ -39,7 +39,7 @@ pub returns-then-not-is_current-clause-found : goal.returns-then-not-is_current-
 returns-then-not-is_current-clause-found g c = λ tells strong.
     let S = g.S.Stable in
     let image = S.image c.args.store.now in
-    let super : c.read-super_block.result ≡ super_of (sector_at image 1) = c.read-super_block.ensures ∙ ap super_of (c.in_ok-get_sector.ensures.done tells) in
+    let super : c.read-super_block.result ≡ super_of (sector_at image 1) = c.read-super_block.ensures.record_of ∙ ap super_of (c.in_ok-get_sector.ensures.done tells) in
     let inside : is_inode image c.args.file.ino ≡ true = sym (number-read image strong c.read-super_block.result c.args.file.ino super) ∙ search rules in
     let sector : c.in_ok-sector.sector ≡ sector_at image (inode_sector c.args.file.ino) =
     c.in_ok-sector.ensures.done tells ∙ (λ z. get_or (c.in_ok-get_sector.ensures.looked.image z) (c.inode_sector_of-place.ensures z) []) in
@@ -50,7 +50,7 @@ pub returns-clause-found : goal.returns-clause-found
 returns-clause-found g c = λ tells strong.
     let S = g.S.Stable in
     let image = S.image c.args.store.now in
-    let super : c.read-super_block.result ≡ super_of (sector_at image 1) = c.read-super_block.ensures ∙ ap super_of (c.in_ok-get_sector.ensures.done tells) in
+    let super : c.read-super_block.result ≡ super_of (sector_at image 1) = c.read-super_block.ensures.record_of ∙ ap super_of (c.in_ok-get_sector.ensures.done tells) in
     let inside : is_inode image c.args.file.ino ≡ true = sym (number-read image strong c.read-super_block.result c.args.file.ino super) ∙ search rules in
     let sector : c.in_ok-sector.sector ≡ sector_at image (inode_sector c.args.file.ino) =
     c.in_ok-sector.ensures.done tells ∙ (λ z. get_or (c.in_ok-get_sector.ensures.looked.image z) (c.inode_sector_of-place.ensures z) []) in

@@ -9,4 +9,4 @@ cut_at : (bytes : List ℕ) (at from : ℕ) → at ≡ from → take (at + 64 - 
 cut_at bytes at from is = part-cut bytes at 64 ∙ ap (λ a. part bytes a 64) is
 
 pub returns-clause-inode : goal.returns-clause-inode
-returns-clause-inode c = c.read.ensures.inode ∙ ap inode_of (cut_at c.args.sector.now c.inode_offset_of-at.result (inode_offset c.args.ino) c.inode_offset_of-at.ensures)
+returns-clause-inode c = c.read.ensures.record_of ∙ ap inode_of (cut_at c.args.sector.now c.inode_offset_of-at.result (inode_offset c.args.ino) c.inode_offset_of-at.ensures)

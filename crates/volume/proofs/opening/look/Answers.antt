@@ -17,7 +17,7 @@ returns-then-sectors-lt2-clause-found g c told =
 pub returns-then-not-has_sizes-clause-found : goal.returns-then-not-has_sizes-clause-found
 returns-then-not-has_sizes-clause-found g c told =
     let shape = as_long g.S.Stable.sector_count g.met.S.Stable.clocked g.met.S.Stable.shape c.args.store.now told in
-    let is = c.read-super_block.ensures ∙ ap super_of (c.in-Ok.ensures.done told) in
+    let is = c.read-super_block.ensures.record_of ∙ ap super_of (c.in-Ok.ensures.done told) in
     opens_read (g.S.Stable.image c.args.store.now) c.sectors-sectors.result c.read-super_block.result (shape.size ∙ sym c.sectors-sectors.ensures) is ∙ sym c.has_sizes.ensures ∙ search rules
 
 pub returns-clause-found : goal.returns-clause-found
@@ -25,7 +25,7 @@ returns-clause-found g c told =
     let S = g.S.Stable in
     let image = S.image c.args.store.now in
     let shape = as_long S.sector_count g.met.S.Stable.clocked g.met.S.Stable.shape c.args.store.now told in
-    let is : c.read-super_block.result ≡ super_of (sector_at image 1) = c.read-super_block.ensures ∙ ap super_of (c.in-Ok.ensures.done told) in
+    let is : c.read-super_block.result ≡ super_of (sector_at image 1) = c.read-super_block.ensures.record_of ∙ ap super_of (c.in-Ok.ensures.done told) in
     let can : has_sizes c.read-super_block.result.mark c.read-super_block.result.s_isize c.read-super_block.result.s_fsize c.sectors-sectors.result ≡ true = sym c.has_sizes.ensures ∙ search rules in
     record {
       sizes = opens_read image c.sectors-sectors.result c.read-super_block.result (shape.size ∙ sym c.sectors-sectors.ensures) is ∙ can;

@@ -1,13 +1,8 @@
-use Rattle.std.proofs.Common.{◌∙◌, sym, arith}
+use Rattle.std.proofs.Common.{◌∙◌, sym}
 use Rattle.presto_cache.specs.Order.{listed}
-use Rattle.presto_cache.proofs.Listing.{order_fits, none_listed}
+use Rattle.presto_cache.proofs.Listing.{none_listed}
 use Rattle.presto_cache.proofs.Counting.{listed_count}
 use Rattle.presto_cache.proofs.cache.Cache.dirty.Goals as goal
-
-pub overflow_cast-result : goal.overflow_cast-result
-overflow_cast-result c =
-    let self = c.args.self.now in
-    omega (arith, c.len.ensures, order_fits self.slots.items (listed self.order) self.ordered, self.are.count, self.are.few)
 
 pub returns-clause-none : goal.returns-clause-none
 returns-clause-none c =

@@ -17,11 +17,11 @@ returns-in_default-clause-crash g c =
 
 pub fill-requires-clause-fill : goal.fill-requires-clause-fill
 fill-requires-clause-fill g c =
-    let is = found g.R.Rig c.requires.knows c.requires.sure c.requires.sector (omega arith) c.deref.ensures.value c.deref-2.ensures.value c.in-Some.ensures c.lowest_unused-buffer.ensures.lowest c.lowest_unused-buffer.ensures.in_range in
+    let is = found g.R.Rig c.requires.knows c.requires.sure c.requires.sector (omega arith) c.in-Some.ensures c.lowest_unused-buffer.ensures.lowest c.lowest_unused-buffer.ensures.in_range in
     let on_board = is.fill.on_board in
     record {
-      place = subst (λ (l : List Slot). IsPlace l c.in-Some.index c.args.sector) (sym c.deref-3.ensures.value) is.fill.place;
-      unused = subst (λ (l : List Slot). IsUnused l c.lowest_unused-buffer.result) (sym c.deref-3.ensures.value) is.fill.unused;
+      place = subst (λ (l : List Slot). IsPlace l c.in-Some.index c.args.sector) (sym c.deref.ensures.value) is.fill.place;
+      unused = subst (λ (l : List Slot). IsUnused l c.lowest_unused-buffer.result) (sym c.deref.ensures.value) is.fill.unused;
       on_board = search rules;
       on_disk = search rules;
       small = omega arith;
@@ -29,22 +29,22 @@ fill-requires-clause-fill g c =
 
 pub know-requires-clause-slots : goal.know-requires-clause-slots
 know-requires-clause-slots g c =
-    let is = found g.R.Rig c.requires.knows c.requires.sure c.requires.sector (omega arith) c.deref.ensures.value c.deref-2.ensures.value c.in-Some.ensures c.lowest_unused-buffer.ensures.lowest c.lowest_unused-buffer.ensures.in_range in
+    let is = found g.R.Rig c.requires.knows c.requires.sure c.requires.sector (omega arith) c.in-Some.ensures c.lowest_unused-buffer.ensures.lowest c.lowest_unused-buffer.ensures.in_range in
     set_fits g.R.Rig c.requires.knows is.fill
 
 pub know-requires-in-Err-clause-slots : goal.know-requires-in-Err-clause-slots
 know-requires-in-Err-clause-slots g c =
-    let is = found g.R.Rig c.requires.knows c.requires.sure c.requires.sector (omega arith) c.deref.ensures.value c.deref-2.ensures.value c.in-Some.ensures c.lowest_unused-buffer.ensures.lowest c.lowest_unused-buffer.ensures.in_range in
+    let is = found g.R.Rig c.requires.knows c.requires.sure c.requires.sector (omega arith) c.in-Some.ensures c.lowest_unused-buffer.ensures.lowest c.lowest_unused-buffer.ensures.in_range in
     told_fits g.R.Rig c.requires.knows is.fill c.in-Err.slot
-    (subst (λ (l : List Slot). (c.in-Err.slot ≡ at l c.in-Some.index) ⊎ (c.in-Err.slot ≡ doubt_for l c.in-Some.index c.args.sector c.lowest_unused-buffer.result)) c.deref-3.ensures.value c.in-Err.ensures.failed)
+    (subst (λ (l : List Slot). (c.in-Err.slot ≡ at l c.in-Some.index) ⊎ (c.in-Err.slot ≡ doubt_for l c.in-Some.index c.args.sector c.lowest_unused-buffer.result)) c.deref.ensures.value c.in-Err.ensures.failed)
 
 pub returns-in-Err-clause-answers : goal.returns-in-Err-clause-answers
 returns-in-Err-clause-answers g c =
     let self = c.args.self.now in
     let i = c.in-Some.index in
     let buffer = c.lowest_unused-buffer.result in
-    let is = found g.R.Rig c.requires.knows c.requires.sure c.requires.sector (omega arith) c.deref.ensures.value c.deref-2.ensures.value c.in-Some.ensures c.lowest_unused-buffer.ensures.lowest c.lowest_unused-buffer.ensures.in_range in
-    let told = subst (λ (l : List Slot). (c.in-Err.slot ≡ at l i) ⊎ (c.in-Err.slot ≡ doubt_for l i c.args.sector buffer)) c.deref-3.ensures.value c.in-Err.ensures.failed in
+    let is = found g.R.Rig c.requires.knows c.requires.sure c.requires.sector (omega arith) c.in-Some.ensures c.lowest_unused-buffer.ensures.lowest c.lowest_unused-buffer.ensures.in_range in
+    let told = subst (λ (l : List Slot). (c.in-Err.slot ≡ at l i) ⊎ (c.in-Err.slot ≡ doubt_for l i c.args.sector buffer)) c.deref.ensures.value c.in-Err.ensures.failed in
     record {
       says = record {
         cache = record {

@@ -1,6 +1,7 @@
 use Rattle.std.proofs.Common.{◌≤◌, ◌-◌, ◌∙◌, ap, sym, subst, ℕ, List, length}
 use Rattle.std.specs.List.Sorted.{IsStrictlyIncreasing}
-use Rattle.presto_cache.specs.Order.{listed, room_of, IsOrderOf}
+use Rattle.presto_cache.specs.Order.{listed, IsOrderOf}
+use Rattle.presto_cache.specs.Spare.{IsSpareOf}
 use Rattle.presto_cache.specs.declared.slot.Slot.{Slot}
 use Rattle.presto_cache.proofs.Listing.{indices_in}
 use Rattle.presto_cache.proofs.Making.{same_board, made_are, made_below, made_of, made_sure}
@@ -13,7 +14,8 @@ invariant_of-result c =
     record {
       are = made_are c.requires.board slots made c.in_ok-slots.ensures.count c.requires.few c.in_ok-slots.ensures.sectors;
       ordered = subst (λ (l : List Slot). IsOrderOf l (listed c.in_ok-order.order)) c.deref.ensures.value c.in_ok-order.ensures.order;
-      room = subst (λ (l : List Slot). length l ≤ room_of c.in_ok-order.order) c.deref.ensures.value c.in_ok-order.ensures.room;
+      room = c.in_ok-order.ensures.room ∙ ap length c.deref.ensures.value;
+      unused = subst (λ (l : List Slot). IsSpareOf c.args.buffers l c.in_ok-spare.spare) c.deref-2.ensures.value c.in_ok-spare.ensures;
     }
 
 pub returns-clause-order : goal.returns-clause-order

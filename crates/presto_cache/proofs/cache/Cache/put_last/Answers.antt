@@ -1,13 +1,8 @@
-use Rattle.std.proofs.Common.{◌∙◌, sym, ap, subst, ℕ, List, arith, refl}
+use Rattle.std.proofs.Common.{◌∙◌, sym, ap, subst, ℕ, List, refl}
 use Rattle.presto_cache.specs.Order.{listed, IsOrderOf}
 use Rattle.presto_cache.specs.Entries.{entries_in}
-use Rattle.presto_cache.proofs.Listing.{moved_ordered, moved_in, moved_room}
+use Rattle.presto_cache.proofs.Listing.{moved_ordered, moved_in}
 use Rattle.presto_cache.proofs.cache.Cache.put_last.Goals as goal
-
-pub put_last-requires : goal.put_last-requires
-put_last-requires c =
-    let self = c.args.self.now in
-    omega (arith, moved_room self.slots.items (listed self.order) c.args.index c.requires.dirty self.ordered, self.room)
 
 pub invariant_of-self : goal.invariant_of-self
 invariant_of-self c =
@@ -15,7 +10,8 @@ invariant_of-self c =
     record {
       are = self.are;
       ordered = subst (λ (l : List ℕ). IsOrderOf self.slots.items l) (sym c.put_last.ensures.last) (moved_ordered self.slots.items (listed self.order) c.args.index c.requires.dirty self.ordered);
-      room = omega (arith, self.room, c.put_last.ensures.room);
+      room = c.put_last.ensures.room ∙ self.room;
+      unused = self.unused;
     }
 
 pub returns : goal.returns

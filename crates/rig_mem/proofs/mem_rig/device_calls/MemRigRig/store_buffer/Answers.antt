@@ -6,16 +6,16 @@ use Rattle.rig_mem.proofs.mem_rig.device_calls.MemRigRig.store_buffer.Goals as g
 pub returns-then-is_err-2-clause-crash : goal.returns-then-is_err-2-clause-crash
 returns-then-is_err-2-clause-crash c =
     let a = c.args.self.now in
-    let changes : c.change_buffer.new.history.changes.items ≡ a.history.changes.items ++ Buffer c.args.index (get_or a.buffers.items c.args.index []) ∷ [] = search rules in
-    let buffers : c.change_buffer.new.buffers.items ≡ (if c.in-Some.takes then set a.buffers.items c.args.index c.args.bytes.now else a.buffers.items) = search rules in
-    buffer_changed a _ c.args.index c.args.bytes.now c.in-Some.takes changes c.change_buffer.ensures.start buffers refl refl refl
+    let changes : c.put-kept.new.self.changes.items ≡ a.history.changes.items ++ Buffer c.args.index (get_or a.buffers.items c.args.index []) ∷ [] = search rules in
+    let buffers : c.put-kept.new.items.items ≡ (if c.in-Some.takes then set a.buffers.items c.args.index c.args.bytes.now else a.buffers.items) = search rules in
+    buffer_changed a _ c.args.index c.args.bytes.now c.in-Some.takes changes c.put-kept.ensures.recorded.start buffers refl refl refl
 
 pub returns-clause-crash : goal.returns-clause-crash
 returns-clause-crash c =
     let a = c.args.self.now in
-    let changes : c.change_buffer.new.history.changes.items ≡ a.history.changes.items ++ Buffer c.args.index (get_or a.buffers.items c.args.index []) ∷ [] = search rules in
-    let buffers : c.change_buffer.new.buffers.items ≡ (if c.in-Some.takes then set a.buffers.items c.args.index c.args.bytes.now else a.buffers.items) = search rules in
-    buffer_changed a _ c.args.index c.args.bytes.now c.in-Some.takes changes c.change_buffer.ensures.start buffers refl refl refl
+    let changes : c.put-kept.new.self.changes.items ≡ a.history.changes.items ++ Buffer c.args.index (get_or a.buffers.items c.args.index []) ∷ [] = search rules in
+    let buffers : c.put-kept.new.items.items ≡ (if c.in-Some.takes then set a.buffers.items c.args.index c.args.bytes.now else a.buffers.items) = search rules in
+    buffer_changed a _ c.args.index c.args.bytes.now c.in-Some.takes changes c.put-kept.ensures.recorded.start buffers refl refl refl
 
 pub returns-in_default-clause-crash : goal.returns-in_default-clause-crash
 returns-in_default-clause-crash c = buffer_unchanged c.args.self.now _ c.args.index refl refl refl refl refl refl
@@ -23,6 +23,6 @@ returns-in_default-clause-crash c = buffer_unchanged c.args.self.now _ c.args.in
 pub returns-then-is_err-clause-crash : goal.returns-then-is_err-clause-crash
 returns-then-is_err-clause-crash c =
     let a = c.args.self.now in
-    let buffers : c.change_buffer.new.buffers.items ≡ a.buffers.items = search rules in
-    let changes : c.change_buffer.new.history.changes.items ≡ a.history.changes.items = search rules in
-    buffer_unchanged a _ c.args.index buffers refl refl refl changes c.change_buffer.ensures.start
+    let buffers : c.put-kept.new.items.items ≡ a.buffers.items = search rules in
+    let changes : c.put-kept.new.self.changes.items ≡ a.history.changes.items = search rules in
+    buffer_unchanged a _ c.args.index buffers refl refl refl changes c.put-kept.ensures.recorded.start

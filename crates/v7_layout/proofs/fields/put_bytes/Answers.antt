@@ -1,0 +1,6 @@
+use Rattle.std.proofs.Common.{rules, arith}
+use Rattle.v7_layout.proofs.Parts.{put_at}
+use Rattle.v7_layout.proofs.fields.put_bytes.Goals as goal
+
+pub returns : goal.returns
+returns c = put_at _ _ _ _ _ _ (omega arith) (omega arith) (search rules) (search rules)
