@@ -1,5 +1,5 @@
 -- At each moment of an opening.
-use Rattle.std.proofs.Common.{◌≡◌, inl, inr, ⊎_elim, Bool, false, true, ℕ, [], refl, sym, ◌∙◌, ap, subst, arith}
+use Rattle.std.proofs.Common.{◌≡◌, ◌⊎◌, inl, inr, ⊎_elim, Bool, false, true, ℕ, [], refl, sym, ◌∙◌, ap, subst, arith, get_or, List}
 use Rattle.std.proofs.lemmas.Bool.{true≢false}
 use Rattle.stable.specs.Moments.{IsClocked, LeavesOnly}
 use Rattle.stable.proofs.Clocked.{weaker, goes_on, ends}
@@ -24,6 +24,7 @@ recovers_same : (sizes : Sizes) (old d : Devices) → d ≡ old → Recovers siz
 recovers_same sizes old d same = record {
   image = λ after crash. sound_overlay d after crash ∙ ap overlay same;
   opens = λ was. subst (λ (e : Devices). IsOpenable sizes e) (sym same) was;
+  disk = λ k. inl (ap (λ (e : Devices). get_or e.disk k []) same);
 }
 
 -- a lost board stands for the disk, whatever it holds
@@ -31,6 +32,7 @@ recovers_lost : (sizes : Sizes) (old d : Devices) → old.kept ≡ false → d.d
 recovers_lost sizes old d lost disk kept = record {
   image = λ after crash. sound_overlay d after crash ∙ bare d (inl (kept ∙ lost)) ∙ disk ∙ sym (bare old (inl lost));
   opens = λ was. inr (inl (kept ∙ lost));
+  disk = λ k. inl (ap (λ (l : List (List ℕ)). get_or l k []) disk);
 }
 
 -- and once it was formatted and marked as kept, it is the volume's
@@ -41,6 +43,7 @@ recovers_marked sizes old d lost new = record {
     board = formatted_board (title_of old.disk) old sizes;
     same = ap name_bytes (marked_overlay (title_of old.disk) old);
   }));
+  disk = λ k. inl (ap (λ (e : Devices). get_or e.disk k []) new);
 }
 
 pub recovers_formatting : (sizes : Sizes) (accepted : Bool) (old d : Devices) → MayBeFormatted accepted old d → Recovers sizes old d
@@ -55,11 +58,20 @@ formatting_disk : (accepted : Bool) (old d : Devices) → MayBeFormatted accepte
 formatting_disk accepted old d (inl same) = ap (λ (e : Devices). e.disk) same
 formatting_disk accepted old d (inr formats) = ⊎_elim (λ part. (formatted_stays (title_of old.disk) old d part).0) (λ marked. ap (λ (e : Devices). e.disk) marked) formats.2
 
+-- a sector that is as before, or as the overlay had it, in two steps
+old_or_laid : {sizes : Sizes} (old mid d : Devices) → Recovers sizes old mid → ((k : ℕ) → (get_or d.disk k [] ≡ get_or mid.disk k []) ⊎ (get_or d.disk k [] ≡ get_or (overlay mid) k []))
+    → (k : ℕ) → (get_or d.disk k [] ≡ get_or old.disk k []) ⊎ (get_or d.disk k [] ≡ get_or (overlay old) k [])
+old_or_laid old mid d so_far more k = ⊎_elim
+    (λ same. ⊎_elim (λ was. inl (same ∙ was)) (λ laid. inr (same ∙ laid)) (so_far.disk k))
+    (λ laid. inr (laid ∙ ap (λ (l : List (List ℕ)). get_or l k []) (so_far.image mid (inl refl))))
+    (more k)
+
 -- a flush goes on
 pub recovers_keeps : (sizes : Sizes) (old mid d : Devices) → mid.kept ≡ true → Recovers sizes old mid → Keeps sizes mid d → Recovers sizes old d
 recovers_keeps sizes old mid d kept so_far keeps = record {
   image = λ after crash. keeps.image after crash ∙ so_far.image mid (inl refl);
   opens = λ was. put_open sizes mid d 0 [] (kept_puts 0 [] keeps) (λ e. absurd (omega (arith, e))) kept (so_far.opens was);
+  disk = old_or_laid old mid d so_far keeps.disk;
 }
 
 -- an opening after an opening
@@ -67,6 +79,7 @@ pub recovers_more : (sizes : Sizes) (old mid d : Devices) → Recovers sizes old
 recovers_more sizes old mid d so_far more = record {
   image = λ after crash. more.image after crash ∙ so_far.image mid (inl refl);
   opens = λ was. more.opens (so_far.opens was);
+  disk = old_or_laid old mid d so_far more.disk;
 }
 
 -- an opening that a sound crash cut is begun again, and finds the same overlay; what could be opened still can
