@@ -47,6 +47,7 @@ pub record HasFound {R : Type 0} (r : Ghosts R) (found : R) (cache : Cache) : Ty
 
 -- What a unit starts with was found.
 pub record IsPrepared {R : Type 0} (r : Ghosts R) (accepted : Bool) (old new : R) (made : Prepared) : Type 0 where
+  pub sectors : 2 ≤ (r.sizes old).sectors
   pub accepted_as : r.tells → IsAccepted (r.sizes old) accepted (r.contents old) made.lost
   pub loss : IsLoss made.lost (r.is_kept old) accepted
   pub has_found : HasFound r old made.cache

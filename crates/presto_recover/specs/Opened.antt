@@ -1,5 +1,5 @@
 -- A unit was opened.
-use Rattle.std.specs.Prelude.{◌≡◌, ◌+◌, ℕ, Bool, true, [], Option, None, Some}
+use Rattle.std.specs.Prelude.{◌≡◌, ◌≤◌, ◌+◌, ℕ, Bool, true, [], Option, None, Some}
 use Rattle.stable.specs.Moments.{LeavesOnly}
 use Rattle.stable.specs.declared.state.Cause.{Cause}
 use Rattle.stable.specs.declared.state.State.{State}
@@ -41,6 +41,7 @@ pub record IsBegunAnew (sizes : Sizes) (found now : Devices) : Type 0 where
 
 -- A unit was opened on the rig that was found: its board was accepted, and each entry found was tried once.
 pub record IsOpened {R : Type 0} (r : Ghosts R) (accepted : Bool) (found : R) (opened : Opened R r) : Type 0 where
+  pub sectors : 2 ≤ (r.sizes found).sectors
   pub accepted_as : r.tells → IsAccepted (r.sizes found) accepted (r.contents found) opened.lost
   pub loss : IsLoss opened.lost (r.is_kept found) accepted
   pub begun_anew : r.tells → opened.lost ≡ true → IsBegunAnew (r.sizes found) (r.contents found) (r.contents (rig_of opened.presto))

@@ -33,6 +33,7 @@ returns-in-Ok-clause-opened g c =
     let presto = c.recover.result.presto in
     let crash = flushes_recover r law.clocked law.kept_told c.args.accept_loss formats prepared.knows.kept c.recover.ensures.crash in
     record {
+      sectors = prepared.sectors;
       accepted_as = λ tells. subst (λ (b : Bool). IsAccepted (r.sizes found) c.args.accept_loss (r.contents found) b) lost (prepared.accepted_as tells);
       loss = subst (λ (b : Bool). IsLoss b (r.is_kept found) c.args.accept_loss) lost prepared.loss;
       begun_anew = λ tells is.

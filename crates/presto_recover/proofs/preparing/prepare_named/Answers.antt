@@ -45,6 +45,7 @@ returns-clause-prepared g c =
     let knows : Knows r mid cache = search rules in
     let entries : r.tells → c.in_ok-found.found.board.entries ≡ found_in (r.contents old) = λ tells. found_entries (r.contents old) (r.contents mid) c.in_ok-found.found.board.entries c.in_ok-found.found.lost (r.is_kept old) c.args.accept_loss (found.read tells).read found.loss (law.kept_told old tells) found.empty found.same in
     record {
+      sectors = c.requires.sectors;
       accepted_as = λ tells. record {
         sectors = c.requires.sectors;
         loss = subst (λ (k : Bool). IsLoss c.in_ok-found.found.lost k c.args.accept_loss) (sym (law.kept_told old tells)) found.loss;
