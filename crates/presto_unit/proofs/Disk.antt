@@ -1,5 +1,5 @@
 -- What each moment of a put leaves of the disk, one call after another.
-use Rattle.std.proofs.Common.{◌≡◌, ◌≢◌, ℕ, List, [], get_or, ap, ◌∙◌}
+use Rattle.std.proofs.Common.{ℕ, List, [], get_or, ap, ◌∙◌}
 use Rattle.rig.specs.Devices.{Devices, Sizes}
 use Rattle.presto_cache.specs.Board.{PutsOnBoard, PutsOnDisk, KeepsOnDisk}
 use Rattle.presto_cache.proofs.Puts.{kept_puts, put_again}

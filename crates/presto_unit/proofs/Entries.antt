@@ -1,5 +1,5 @@
 -- What becomes of the entries.
-use Rattle.std.proofs.Common.{◌≡◌, ◌⊎◌, inl, inr, ⊎_elim, ℕ, ◌+◌, ◌<◌, ◌≤◌, List, [], ◌∷◌, ◌++◌, map, suc, ◌-◌, Option, Some, None, IsSome, true, false, length, drop, get_or, set, refl, sym, ◌∙◌, ap, subst, arith, length-append, if◌then◌else◌}
+use Rattle.std.proofs.Common.{◌≡◌, ◌⊎◌, inl, inr, ⊎_elim, ℕ, ◌+◌, ◌<◌, ◌≤◌, List, [], ◌∷◌, ◌++◌, map, suc, Option, Some, None, IsSome, true, false, length, drop, set, refl, sym, ◌∙◌, ap, arith, length-append, if◌then◌else◌}
 use Rattle.std.proofs.lemmas.Bool.{true≢false}
 use Rattle.presto_cache.specs.Slots.{at, is_dirty, in_doubt, sector_of, clear_failed, NoDoubt, AreSlots, find_in}
 use Rattle.presto_cache.specs.Entries.{Entry, entries_in, entry_in, with_entry, without_entry, changed, oldest_in}

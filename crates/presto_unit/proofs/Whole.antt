@@ -1,12 +1,12 @@
 -- What can be opened is whole, and so each sound crash of it shows an image.
-use Rattle.std.proofs.Common.{◌≡◌, inl, inr, ⊎_elim, ℕ, ◌^◌, ◌<◌, ◌≤◌, Bool, true, false, if◌then◌else◌, List, [], ◌∷◌, length, get_or, drop, refl, sym, ◌∙◌, ap, subst, arith}
+use Rattle.std.proofs.Common.{◌≡◌, inl, inr, ℕ, ◌^◌, ◌<◌, ◌≤◌, Bool, true, false, if◌then◌else◌, List, [], ◌∷◌, length, get_or, drop, refl, sym, ◌∙◌, ap, subst, arith}
 use Rattle.rig.specs.Devices.{Devices, Sizes, HasShape, IsBoard}
 use Rattle.nvram_map.specs.Overlay.{overlay, laid, entries, is_entry, entry_buffer, SoundlyLeaves}
 use Rattle.nvram_map.proofs.Overlaid.{sound_overlay, length-overlay, length-laid, made_buffer}
 use Rattle.nvram_map.proofs.Listed.{zero_free}
 use Rattle.std.proofs.lemmas.Bool.{true≢false}
 use Rattle.stable.specs.Store.{HasSectors}
-use Rattle.presto_unit.specs.Images.{ShowsWhole, overlays_since}
+use Rattle.presto_unit.specs.Images.{overlays_since}
 use Rattle.presto_unit.specs.Laws.{laid_long}
 use Rattle.presto_unit.specs.Opening.{IsOpenable}
 use Rattle.nvram_map.specs.Overlay.{NoEntry}

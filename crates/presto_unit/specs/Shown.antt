@@ -1,5 +1,5 @@
 -- What a unit shows of itself, and how tending changes it.
-use Rattle.std.specs.Prelude.{◌≡◌, ◌≢◌, ◌⊎◌, ◌≤◌, ◌<◌, ℕ, None, Some, length}
+use Rattle.std.specs.Prelude.{◌≡◌, ◌≢◌, ◌⊎◌, ◌<◌, ℕ, None, Some, length}
 use Rattle.stable.specs.Counts.{one_more}
 use Rattle.stable.specs.Moments.{LeavesOnly}
 use Rattle.stable.specs.declared.battery.Battery.TheVariants.{Low}

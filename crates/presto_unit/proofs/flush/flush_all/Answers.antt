@@ -1,4 +1,4 @@
-use Rattle.std.proofs.Common.{◌≡◌, ◌∙◌, ◌<◌, refl, sym, ap, subst, arith, rules, ℕ, length}
+use Rattle.std.proofs.Common.{◌<◌, subst, rules, ℕ, length}
 use Rattle.stable.proofs.Clocked.{started}
 use Rattle.rig.proofs.Looking.{stays_again}
 use Rattle.presto_cache.specs.Board.{Keeps}
@@ -7,7 +7,7 @@ use Rattle.presto_cache.proofs.Known.{known_at}
 use Rattle.presto_cache.proofs.Puts.{stay_keeps}
 use Rattle.presto_unit.proofs.Entries.{adds_same, adds_more}
 use Rattle.presto_unit.proofs.Runs.{flushes_all_on}
-use Rattle.presto_unit.proofs.Tried.{tried_none, tried_more, tried_all}
+use Rattle.presto_unit.proofs.Tried.{tried_none, tried_more}
 use Rattle.presto_unit.proofs.flush.flush_all.Goals as goal
 
 pub loop-done-init : goal.loop-done-init

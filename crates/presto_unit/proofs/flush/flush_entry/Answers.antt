@@ -1,6 +1,5 @@
-use Rattle.std.proofs.Common.{◌∙◌, ◌≡◌, sym, ap, subst, get_or, ℕ, Option}
+use Rattle.std.proofs.Common.{◌∙◌, sym, ap, subst, ℕ, Option}
 use Rattle.rig.specs.Devices.{Devices}
-use Rattle.nvram_map.specs.Overlay.{entries}
 use Rattle.presto_cache.specs.Slots.{at, sector_of, spelled}
 use Rattle.presto_unit.specs.Disk.{FlushesOne, IsOnDisk}
 use Rattle.presto_unit.proofs.Runs.{flushes_looked, flushes_on, unset_on_disk}

@@ -1,7 +1,5 @@
 use Rattle.std.proofs.Common.{◌∙◌, sym, ap, [], get_or}
 use Rattle.rig.specs.Devices.{Devices}
-use Rattle.presto_cache.specs.Cache.{Knows}
-use Rattle.presto_unit.specs.Disk.{Holds}
 use Rattle.presto_unit.proofs.Runs.{knows_same, holds_same, knows_written, flushes_looked, flushes_on, flushes_written, stands_written}
 use Rattle.presto_unit.proofs.flush.write_out.Goals as goal
 

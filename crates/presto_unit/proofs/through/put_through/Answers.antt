@@ -11,7 +11,6 @@ use Rattle.presto_cache.proofs.Places.{entry_found}
 use Rattle.presto_cache.proofs.Puts.{now_put}
 use Rattle.presto_cache.proofs.Runs.{on_ok, puts_at}
 use Rattle.presto_cache.proofs.Writing.{written_image, write_step}
-use Rattle.presto_unit.specs.Disk.{PutsOneMakingRoom}
 use Rattle.presto_unit.proofs.Disk.{board_with_room, disk_with_room}
 use Rattle.presto_unit.proofs.Entries.{none_left}
 use Rattle.presto_unit.proofs.Runs.{knows_written, puts_on}

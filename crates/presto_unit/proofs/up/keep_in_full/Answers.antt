@@ -1,4 +1,4 @@
-use Rattle.std.proofs.Common.{◌≡◌, ◌≢◌, arith, refl, inl, sym, ◌∙◌, ap, subst, set, rules, ℕ, List, None}
+use Rattle.std.proofs.Common.{◌≢◌, arith, refl, inl, sym, ◌∙◌, ap, subst, set, rules, ℕ, List, None}
 use Rattle.stable.proofs.Clocked.{weaker, ends}
 use Rattle.presto_cache.specs.Slots.{place_in}
 use Rattle.presto_cache.specs.declared.slot.Slot.{Slot}

@@ -1,4 +1,4 @@
-use Rattle.std.proofs.Common.{◌≡◌, ◌∙◌, ap, set, rules, arith}
+use Rattle.std.proofs.Common.{◌≡◌, ◌∙◌, ap, set, rules}
 use Rattle.nvram_map.specs.Overlay.{overlay}
 use Rattle.presto_cache.specs.declared.cache.Keep.TheVariants.{Kept, Full}
 use Rattle.presto_cache.proofs.Runs.{on_ok}

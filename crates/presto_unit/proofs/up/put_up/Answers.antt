@@ -1,4 +1,4 @@
-use Rattle.std.proofs.Common.{◌≡◌, ◌≢◌, ap, set, List, ℕ, ◌∙◌, ⊎_elim, refl, sym, subst, arith}
+use Rattle.std.proofs.Common.{◌≢◌, ap, set, List, ℕ, ◌∙◌, ⊎_elim, refl, sym, arith}
 use Rattle.std.proofs.lemmas.List.{set-set}
 use Rattle.stable.proofs.Clocked.{ends, weaker}
 use Rattle.stable.specs.declared.state.State.TheVariants.{Up}

@@ -1,5 +1,5 @@
-use Rattle.std.proofs.Common.{◌≡◌, ◌<◌, ◌≤◌, ◌∙◌, sym, ap, refl, subst, ⊎_elim, arith}
-use Rattle.stable.proofs.Clocked.{through, started, weaker}
+use Rattle.std.proofs.Common.{◌<◌, ◌≤◌, ◌∙◌, sym, ap, refl, subst, ⊎_elim, arith}
+use Rattle.stable.proofs.Clocked.{through}
 use Rattle.stable.specs.States.{IsCommanded}
 use Rattle.stable.specs.declared.command.Command.{Command}
 use Rattle.presto_states.specs.Table.{after}

@@ -1,4 +1,4 @@
-use Rattle.std.proofs.Common.{◌≡◌, ◌<◌, ◌≤◌, ◌∙◌, sym, ap, refl, subst, List, ℕ, arith}
+use Rattle.std.proofs.Common.{◌<◌, ◌≤◌, ◌∙◌, sym, ap, refl, subst, List, ℕ, arith}
 use Rattle.stable.proofs.Clocked.{through}
 use Rattle.stable.specs.States.{StaysOrFails, IsDeviceError}
 use Rattle.stable.specs.declared.state.State.{State}
