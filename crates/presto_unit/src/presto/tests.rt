@@ -30,18 +30,21 @@ fn formatted(alloc: Global) -> Result<MemRig, NoMemory> {
 
 // The cache of a board that can be read. Reading makes five device calls.
 fn read_cache<R: Rig>(alloc: Global, rig: &mut R) -> Option<Cache>
-    ensures { IfSome result (λ cache. Knows R.Rig rig.new cache) }
+    ensures { IfSome result (Knows R.Rig rig.new) }
 {
     let buffers = rig.buffers();
     // its contract says that the number of sectors has 32 bits
     let _sectors = rig.sectors();
-    if buffers == 0 || !rig.kept() {
+    if buffers == 0 {
         return None;
     }
     let Ok(board) = read_board(alloc, rig, VOLUME) else {
         return None;
     };
-    Cache::new(alloc, &board, buffers).ok()
+    let Ok(cache) = Cache::new(alloc, &board, buffers) else {
+        return None;
+    };
+    Some(cache)
 }
 
 // A unit on the board as it was left: DOWN, or in ERROR by this cause.
