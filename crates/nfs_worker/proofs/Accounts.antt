@@ -1,0 +1,159 @@
+-- The account of a volume, over one hold after another.
+use Rattle.std.proofs.Common.{arith, ◌≡◌, ◌⊎◌, ℕ, ◌+◌, ◌≤◌, List, [], ◌∷◌, ◌++◌, refl, sym, ap, ◌∙◌, subst, inl, inr, ⊎_elim, append_assoc, append-nil}
+use Rattle.files_model.specs.Files.{Files}
+use Rattle.files_model.specs.History.{Event, after, after_event, IsLegal, failures}
+use Rattle.files_model.specs.History.Event.{Done, Failed, Cut}
+use Rattle.stable.specs.Counts.{RoseBy}
+use Rattle.stable.specs.Moments.{IsClocked, LeavesOnly}
+use Rattle.stable.proofs.Clocked.{started, goes_on, weaker}
+use Rattle.stable.specs.Looked.{KeepsImage}
+use Rattle.stable.specs.Store.{Image, StaysOpenable}
+use Rattle.stable.specs.declared.store.Stable.{Ghosts}
+use Rattle.v7_map.specs.Frame.{frame}
+use Rattle.v7_map.specs.View.{view}
+use Rattle.v7_map.specs.Weak.{IsStrong}
+use Rattle.nfs_worker.specs.Account.{Hold, history, StandsFor, IsRecovered, Lasts, MarksWithin, HasGrown, Grew}
+
+pub after-append : (files : Files) (xs ys : List Event) → after files (xs ++ ys) ≡ after (after files xs) ys
+after-append files [] ys = refl
+after-append files (x ∷ xs) ys = after-append (after_event files x) xs ys
+
+pub legal-append : (files : Files) (xs ys : List Event) → IsLegal files xs → IsLegal (after files xs) ys → IsLegal files (xs ++ ys)
+legal-append files [] ys p q = q
+legal-append files (x ∷ xs) ys p q = (p.0, legal-append (after_event files x) xs ys p.1 q)
+
+failures-append : (xs ys : List Event) → failures (xs ++ ys) ≡ failures xs + failures ys
+failures-append [] ys = omega arith
+failures-append (Done w i n r ∷ xs) ys = failures-append xs ys
+failures-append (Failed w i n l ∷ xs) ys = let e : failures (xs ++ ys) ≡ failures xs + failures ys = failures-append xs ys in omega arith
+failures-append (Cut c n l ∷ xs) ys = failures-append xs ys
+
+pub history-append : (xs ys : List Hold) → history (xs ++ ys) ≡ history xs ++ history ys
+history-append [] ys = refl
+history-append (x ∷ xs) ys = ap (λ (es : List Event). x.events ++ es) (history-append xs ys) ∙ sym (append_assoc x.events (history xs) (history ys))
+
+-- files that stand for some of the holds stand for some of these and more
+stands_left : (files : Files) (xs ys : List Hold) (found : Files) → StandsFor files xs found → StandsFor files (xs ++ ys) found
+stands_left files [] [] found p = p
+stands_left files [] (y ∷ ys) found p = inl (inl p)
+stands_left files (x ∷ xs) ys found (inl p) = inl p
+stands_left files (x ∷ xs) ys found (inr p) = inr (stands_left (after files x.events) xs ys found p)
+
+stands_right : (files : Files) (xs ys : List Hold) (found : Files) → StandsFor (after files (history xs)) ys found → StandsFor files (xs ++ ys) found
+stands_right files [] ys found p = p
+stands_right files (x ∷ xs) ys found p =
+    inr (stands_right (after files x.events) xs ys found (subst (λ (f : Files). StandsFor f ys found) (after-append files x.events (history xs)) p))
+
+recovered_left : (files : Files) (xs ys : List Hold) (image : Image) → IsRecovered files xs image → IsRecovered files (xs ++ ys) image
+recovered_left files xs ys image p = record { weak = p.weak; stands = stands_left files xs ys (view image) p.stands }
+
+recovered_right : (files then : Files) (xs ys : List Hold) (image : Image) → then ≡ after files (history xs) → IsRecovered then ys image → IsRecovered files (xs ++ ys) image
+recovered_right files then xs ys image is p = record { weak = p.weak; stands = stands_right files xs ys (view image) (subst (λ (f : Files). StandsFor f ys (view image)) is p.stands) }
+
+marks_later : (a b now : ℕ) (ys : List Hold) → a ≤ b → MarksWithin b now ys → MarksWithin a now ys
+marks_later a b now [] le p = omega (arith, le, p)
+marks_later a b now (y ∷ ys) le p = (omega (arith, le, p.0), p.1)
+
+marks_both : (a b c : ℕ) (xs ys : List Hold) → MarksWithin a b xs → MarksWithin b c ys → MarksWithin a c (xs ++ ys)
+marks_both a b c [] ys p q = marks_later a b c ys p q
+marks_both a b c (x ∷ xs) ys p q = (p.0, marks_both x.mark b c xs ys p.1 q)
+
+marks_end : (a b : ℕ) (xs : List Hold) → MarksWithin a b xs → a ≤ b
+marks_end a b [] p = p
+marks_end a b (x ∷ xs) p = let e = marks_end x.mark b xs p.1 in omega (arith, p.0, e)
+
+-- what crashes since earlier marks leave, after more holds
+lasts_both : (past since : ℕ → Image → Type 0) (mid from : ℕ) (files then : Files) (xs ys : List Hold) → then ≡ after files (history xs)
+    → ((t : ℕ) (d : Image) → t ≤ mid → since t d → past t d ⊎ since mid d)
+    → ((d : Image) → since mid d → IsRecovered then ys d)
+    → MarksWithin from mid xs → Lasts past files xs → Lasts since then ys → Lasts since files (xs ++ ys)
+lasts_both past since mid from files then [] ys is before each marks p q = subst (λ (f : Files). Lasts since f ys) is q
+lasts_both past since mid from files then (x ∷ xs) ys is before each marks p q =
+    let is' : then ≡ after (after files x.events) (history xs) = is ∙ after-append files x.events (history xs) in
+    let early : x.mark ≤ mid = marks_end x.mark mid xs marks.1 in (
+      (λ d left. ⊎_elim
+          (λ was. recovered_left (after files x.events) xs ys d (p.0 d was))
+          (λ now. recovered_right (after files x.events) then xs ys d is' (each d now))
+          (before x.mark d early left)),
+      lasts_both past since mid x.mark (after files x.events) then xs ys is' before each marks.1 p.1 q,
+    )
+
+rose_both : (m n a b c : ℕ) → RoseBy m a b → RoseBy n b c → RoseBy (m + n) a c
+rose_both m n a b c p q = omega (arith, p, q)
+
+module _ {S : Type 0} (s : Ghosts S) (clocked : IsClocked s.tells s.image s.moment s.left_since) where
+  -- nothing happened
+  pub grew_none : (old : S) → Grew s old old []
+  grew_none old = record {
+    grown = λ told strong. record { legal = tt; view_is = refl; strong = strong };
+    io = omega arith;
+    marked = omega arith;
+    crash = started clocked old _ (λ told strong. record { weak = strong.weak; stands = refl });
+    lasts = λ told strong. tt;
+    opens = λ t le opens. opens;
+  }
+
+  -- One hold that meets its own clause: its events are legal, and a crash in it leaves them torn.
+  pub grew_hold : (old new : S) (events : List Event)
+      → (s.tells → IsStrong (frame (s.image old)) → HasGrown (view (s.image old)) (s.image new) events)
+      → RoseBy (failures events) (s.faults old) (s.faults new)
+      → LeavesOnly s.moment s.left_since old new (λ d. IsStrong (frame (s.image old)) → IsRecovered (view (s.image old)) (record { events = events; mark = s.moment new } ∷ []) d)
+      → StaysOpenable s.opens_since s.moment old new
+      → Grew s old new (record { events = events; mark = s.moment new } ∷ [])
+  grew_hold old new events grown io crash opens =
+      let all : events ++ [] ≡ events = append-nil events in
+      record {
+        grown = λ told strong. subst (λ (es : List Event). HasGrown (view (s.image old)) (s.image new) es) (sym all) (grown told strong);
+        io = subst (λ (es : List Event). RoseBy (failures es) (s.faults old) (s.faults new)) (sym all) io;
+        marked = (crash.later, omega arith);
+        crash = crash;
+        lasts = λ told strong. (
+          (λ d left.
+              let same : d ≡ s.image new = clocked.only new d left in
+              let g = grown told strong in
+              subst (λ (x : Image). IsRecovered (after (view (s.image old)) events) [] x) (sym same) (record { weak = g.strong.weak; stands = g.view_is })),
+          tt,
+        );
+        opens = opens;
+      }
+
+  -- device calls without a hold: no sector has changed
+  pub grew_idle : {old new : S} → KeepsImage s old new → Grew s old new []
+  grew_idle {old} {new} keeps = record {
+    grown = λ told strong. record {
+      legal = tt;
+      view_is = ap (λ (d : Image). view d) (keeps.image told);
+      strong = subst (λ (d : Image). IsStrong (frame d)) (sym (keeps.image told)) strong;
+    };
+    io = omega (arith, keeps.later);
+    marked = keeps.crash.later;
+    crash = weaker keeps.crash (λ d left is strong. subst (λ (x : Image). IsRecovered (view (s.image old)) [] x) (sym is) (record { weak = strong.weak; stands = refl }));
+    lasts = λ told strong. tt;
+    opens = keeps.opens;
+  }
+
+  -- one run of holds and then another
+  pub grew_both : {a b c : S} (xs ys : List Hold) → Grew s a b xs → Grew s b c ys → Grew s a c (xs ++ ys)
+  grew_both {a} {b} {c} xs ys p q = record {
+    grown = λ told strong.
+        let g = p.grown told strong in
+        let h = q.grown told g.strong in
+        record {
+          legal = subst (IsLegal (view (s.image a))) (sym (history-append xs ys)) (legal-append (view (s.image a)) (history xs) (history ys) g.legal (subst (λ (f : Files). IsLegal f (history ys)) g.view_is h.legal));
+          view_is = h.view_is ∙ ap (λ (f : Files). after f (history ys)) g.view_is ∙ sym (after-append (view (s.image a)) (history xs) (history ys)) ∙ ap (after (view (s.image a))) (sym (history-append xs ys));
+          strong = h.strong;
+        };
+    io = subst (λ (n : ℕ). RoseBy n (s.faults a) (s.faults c)) (sym (failures-append (history xs) (history ys)) ∙ ap failures (sym (history-append xs ys))) (rose_both (failures (history xs)) (failures (history ys)) (s.faults a) (s.faults b) (s.faults c) p.io q.io);
+    marked = marks_both (s.moment a) (s.moment b) (s.moment c) xs ys p.marked q.marked;
+    crash = goes_on (weaker p.crash (λ d left is strong. recovered_left (view (s.image a)) xs ys d (is strong))) q.crash (λ d left is strong.
+        let told = clocked.told c (s.moment b) d left in
+        let g = p.grown told strong in
+        recovered_right (view (s.image a)) (view (s.image b)) xs ys d g.view_is (is g.strong));
+    lasts = λ told strong.
+        let g = p.grown told strong in
+        lasts_both (s.left_since b) (s.left_since c) (s.moment b) (s.moment a) (view (s.image a)) (view (s.image b)) xs ys g.view_is
+        (λ t d early left. q.crash.before t d early left)
+        (λ d left. q.crash.each d left g.strong)
+        p.marked (p.lasts told strong) (q.lasts told g.strong);
+    opens = λ t le opens. q.opens t (omega (arith, le, p.crash.later)) (p.opens t le opens);
+  }

@@ -1,0 +1,10 @@
+pub mod Accounts
+pub mod Reactions
+pub mod Counts
+pub mod Lists
+pub mod Meanings
+pub mod Offers
+pub mod OneHold
+pub mod Tendings
+pub mod Turns
+pub mod Workers

@@ -1,0 +1,50 @@
+-- The account of a worker, over one run after another.
+use Rattle.std.proofs.Common.{arith, ◌≡◌, ℕ, List, [], ◌∷◌, ◌++◌, refl, sym, ap, ◌∙◌, append_assoc}
+use Rattle.std.specs.List.{flat_map, AllByRecursion}
+use Rattle.std.proofs.lemmas.List.Elements.{filter_map-append}
+use Rattle.files_model.specs.declared.address.Address.{Address}
+use Rattle.files_model.specs.History.{Event}
+use Rattle.rig.specs.Links.{Heard}
+use Rattle.nfs_worker.specs.Offers.LeavesOut.{none}
+use Rattle.nfs_worker.specs.Worker.{worker_at, Worker, Own, owned, Works, request_in, outside_in, requests_of, replies_of}
+use Rattle.nfs_worker.specs.Worker.Mixes.{neither}
+use Rattle.nfs_worker.proofs.Lists.{mixes_both, hears_both}
+use Rattle.nfs_worker.proofs.Offers.{leaves_both, offers_both, offers_nothing}
+
+flat_map-append : {A B : Type 0} (f : A → List B) (xs ys : List A) → flat_map f (xs ++ ys) ≡ flat_map f xs ++ flat_map f ys
+flat_map-append f [] ys = refl
+flat_map-append f (x ∷ xs) ys = ap (λ zs. f x ++ zs) (flat_map-append f xs ys) ∙ sym (append_assoc (f x) (flat_map f xs) (flat_map f ys))
+
+pub all-append : {A : Type 0} (P : A → Type 0) (xs ys : List A) → AllByRecursion P xs → AllByRecursion P ys → AllByRecursion P (xs ++ ys)
+all-append P [] ys p q = q
+all-append P (x ∷ xs) ys p q = (p.0, all-append P xs ys p.1 q)
+
+pub owned-append : (volume : ℕ) (xs ys : List Event) → owned volume (xs ++ ys) ≡ owned volume xs ++ owned volume ys
+owned-append volume [] ys = refl
+owned-append volume (x ∷ xs) ys = ap (λ (own : List Own). record { volume = volume; event = x } ∷ own) (owned-append volume xs ys)
+
+pub works_both : (volumes number : ℕ) (a b c : Worker) (heard heard' : List Heard) (own own' : List Own) (rs rs' : List (Address × List ℕ))
+    → Works volumes number a b heard own rs → Works volumes number b c heard' own' rs' → Works volumes number a c (heard ++ heard') (own ++ own') (rs ++ rs')
+works_both volumes number a b c heard heard' own own' rs rs' p q = record {
+  taken = hears_both a.left b.left c.left heard heard' p.taken q.taken;
+  asked = rw (flat_map-append requests_of own own', filter_map-append (request_in volumes) heard heard') (leaves_both _ _ _ _ p.asked q.asked);
+  outside = p.outside ++ q.outside;
+  heard_outside = rw (filter_map-append (outside_in volumes) heard heard') (leaves_both _ _ _ _ p.heard_outside q.heard_outside);
+  offered = p.offered ++ q.offered;
+  mixed = rw (flat_map-append replies_of own own') (mixes_both _ _ _ _ _ _ p.mixed q.mixed);
+  sends = offers_both p.offered q.offered rs rs' p.sends q.sends;
+  mine = all-append (λ (o : Own). worker_at o.event ≡ number) own own' p.mine q.mine;
+}
+
+-- nothing was heard and nothing done
+pub works_nothing : (volumes number : ℕ) (a : Worker) → Works volumes number a a [] [] []
+works_nothing volumes number a = record {
+  taken = refl;
+  asked = none;
+  outside = [];
+  heard_outside = none;
+  offered = [];
+  mixed = neither;
+  sends = offers_nothing refl (omega arith);
+  mine = tt;
+}

@@ -1,0 +1,7 @@
+pub mod Account
+pub mod Answers
+pub mod Offers
+pub mod Served
+pub mod Tending
+pub mod Turns
+pub mod Worker

@@ -1,0 +1,54 @@
+//! One hold of a volume for one call.
+ghost use Rattle.std.specs.Prelude.{◌≡◌, true};
+ghost use Rattle.files_model.specs.Step.{has_row};
+ghost use Rattle.nfs_worker.specs.Served.{Serves};
+ghost use Rattle.nfs_worker.specs.Tending.{IsUntended};
+ghost use Rattle.volume.specs.Mounted.{store_of};
+
+use crate::releasing::Ready;
+use files_model::{Call, Cred, Reply, Stat};
+use nfs2_wire::{Room, longest, write_reply};
+use rig::Address;
+use stable::Tended;
+use std::alloc::Global;
+use volume::{Outcome, Volume};
+
+/// What became of a call.
+#[derive(Drop)]
+pub enum Served {
+    /// This reply is to be sent.
+    Ready(Ready),
+    /// There was no memory. Nothing was changed, and there is no event.
+    NoMemory,
+}
+
+/// Serves one call on the volume for a worker, all at this second. The reply's room is reserved before the call is made.
+pub fn serve_call<S: Tended>(
+    alloc: Global,
+    volume: &mut Volume<S>,
+    number: u32,
+    xid: u32,
+    from: Address,
+    call: &Call,
+    cred: &Cred,
+    now: u32,
+) -> Served
+    requires { has_row call.now ≡ true }
+    ensures served { Serves S.Stable (store_of volume.old) (store_of volume.new) number now (record { xid = xid; from = from; call = call.now; cred = cred.now }) result }
+    ensures untended { IsUntended (S.snapshot_of (store_of volume.old)) (S.snapshot_of (store_of volume.new)) }
+{
+    let Ok(room) = Room::new(alloc, longest(call)) else {
+        return Served::NoMemory;
+    };
+    match volume.apply(call, cred, now) {
+        Outcome::Reply(reply) => Served::Ready(Ready {
+            bytes: write_reply(room, xid, &reply, 0),
+            to: from,
+        }),
+        Outcome::Io => Served::Ready(Ready {
+            bytes: write_reply(room, xid, &Reply::Refused(Stat::Io), 0),
+            to: from,
+        }),
+        Outcome::NoMemory => Served::NoMemory,
+    }
+}

@@ -1,0 +1,94 @@
+//! One turn of a worker.
+ghost use Rattle.std.specs.Prelude.{◌≡◌, ◌+◌, ◌<◌, ◌^◌};
+ghost use Rattle.nfs_worker.specs.Tending.{IsTended, IsUntended, is_new};
+ghost use Rattle.nfs_worker.specs.Answers.{Replied};
+ghost use Rattle.nfs_worker.specs.Turns.{Turned, IsAsked, answers_in, turn_of, EventTurn};
+ghost use Rattle.volume.specs.Mounted.{store_of};
+
+use crate::answering::{Reaction, answer};
+use crate::cells::Cells;
+use crate::pass::{Numbers, ServerPass};
+use crate::releasing::{Released, release, send};
+use crate::tending::tend;
+use crate::turning::{DropCause, Turn};
+use rig::{Address, Clock, Event, Link, Pauser, Post};
+use stable::Tended;
+
+// What the release of the turn's one reply makes of the turn.
+fn turn_of(released: Released) -> Turn
+    ensures { result ≡ turn_of released }
+{
+    match released {
+        Released::Sent => Turn::Answered(1),
+        Released::SendFailed => Turn::Dropped(DropCause::SendFailed),
+    }
+}
+
+// Sends what a datagram from that address came to, if anything.
+fn reply<L: Link>(link: &mut L, from: Address, reaction: Reaction) -> Turn
+    ensures { Replied L.Link from reaction link.old link.new result }
+{
+    match reaction {
+        Reaction::Ready(ready) => turn_of(release(link, ready)),
+        Reaction::Outside(reply) => turn_of(send(link, &from, reply.bytes())),
+        Reaction::Dropped(cause) => Turn::Dropped(cause),
+    }
+}
+
+// The numbers after a datagram of which the turn made this.
+fn counted(numbers: Numbers, turn: Turn) -> Numbers
+    requires { numbers.received < 2 ^ 48 }
+    ensures received { result.received ≡ numbers.received + 1 }
+    ensures answered { result.answered ≡ numbers.answered + answers_in turn }
+{
+    match turn {
+        Turn::Answered(_) => numbers.with_answered(),
+        _ => numbers.with_dropped(),
+    }
+}
+
+// The turn of an event without a datagram.
+fn quiet(event: Event) -> Turn
+    ensures { EventTurn event result }
+{
+    match event {
+        Event::Datagram(_) | Event::Idle => Turn::Idle,
+        Event::Closed => Turn::Closed,
+        Event::Failed => Turn::Dropped(DropCause::ReceiveFailed),
+    }
+}
+
+// Takes one event, and answers it where it is a datagram that means something, at the pass's second.
+fn take<S: Tended, L: Link>(cells: &mut Cells<S>, link: &mut L, pass: &mut ServerPass) -> Turn
+    requires { pass.old.numbers.received < 2 ^ 48 }
+    ensures turned { Turned S.Stable L.Link (store_of cells.old.volume) (store_of cells.new.volume) link.old link.new pass.old pass.new result }
+    ensures untended { IsUntended (S.snapshot_of (store_of cells.old.volume)) (S.snapshot_of (store_of cells.new.volume)) }
+    ensures second { pass.new.second ≡ pass.old.second }
+{
+    let event = link.recv(&mut pass.packet);
+    let Event::Datagram(from) = event else {
+        return quiet(event);
+    };
+    let reaction = answer(cells, pass.number, pass.second, from, pass.packet.bytes());
+    let turn = reply(link, from, reaction);
+    pass.numbers = counted(pass.numbers, turn);
+    turn
+}
+
+/// Takes one turn: asks the clock, polls the battery where the second is a new one, tries a dirty sector where the store is in error, and then takes one
+/// event, which it answers where it is a datagram that means something.
+pub fn turn<S: Tended, L: Link, C: Clock, P: Pauser>(
+    cells: &mut Cells<S>,
+    post: &mut Post<L, C, P>,
+    pass: &mut ServerPass,
+) -> Turn
+    requires { pass.old.numbers.received < 2 ^ 48 }
+    ensures turned { Turned S.Stable L.Link (store_of cells.old.volume) (store_of cells.new.volume) post.old.link post.new.link pass.old pass.new result }
+    ensures asked { IsAsked C.Clock post.old.clock post.new.clock pass.new.second }
+    ensures tended { IsTended (is_new pass.old.second pass.new.second) (S.snapshot_of (store_of cells.old.volume)) (S.snapshot_of (store_of cells.new.volume)) }
+{
+    let second = post.clock.now();
+    tend(&mut cells.volume, second != pass.second);
+    pass.second = second;
+    take(cells, &mut post.link, pass)
+}
