@@ -1,9 +1,8 @@
-pub mod Account
-pub mod DiskLaws
-pub mod Disks
+pub mod Asking
+pub mod Course
+pub mod Kept
 pub mod Lines
+pub mod Refusals
 pub mod Run
-pub mod Served
-pub mod Turns
-pub mod Worker
+pub mod Told
 pub mod Words

@@ -1,158 +1,56 @@
 -- What a run of the server does (docs/CALLS.md, "Lines and statuses").
-use Rattle.std.specs.Prelude.{◌≡◌, ◌≢◌, ◌⊎◌, ℕ, ◌+◌, ◌-◌, ◌≤◌, true, false, List, [], ◌∷◌, ◌++◌, length, codes, Option, Some, None, Result, Ok, Err}
-use Rattle.std.specs.List.{flat_map, AllByRecursion}
-use Rattle.std.specs.Option.{option_map}
-use Rattle.stable.specs.Counts.{Rose}
-use Rattle.rig.specs.Hosts.{SameLoans}
-use Rattle.rig.specs.declared.host.HostFault.{HostFault}
-use Rattle.rig.specs.declared.host.HostFault.TheVariants as host_fault
-use Rattle.rig.specs.declared.host.Post.{Post}
+use Rattle.std.specs.Prelude.{◌≡◌, ◌≢◌, ◌⊎◌, ℕ, ◌+◌, ◌-◌, ◌≤◌, Bool, true, false, List, [], ◌∷◌, ◌++◌, length, Option, Some, None, IsSome}
+use Rattle.std.specs.List.{flat_map}
+use Rattle.stable.specs.Counts.{Rose, RoseBy}
+use Rattle.stable.specs.Looked.{KeepsImage}
+use Rattle.stable.specs.declared.store.Stable.{Ghosts as StoreGhosts}
+use Rattle.rig.specs.Hosts.{SameLoans, SameLines}
 use Rattle.rig.specs.Links.{gains}
-use Rattle.stable.specs.Store.{Image}
-use Rattle.v7_map.specs.Frame.{frame}
+use Rattle.rig.specs.declared.clock.Clock.{Ghosts as ClockGhosts}
+use Rattle.rig.specs.declared.host.Host.{Ghosts}
+use Rattle.rig.specs.declared.host.HostFault.{HostFault}
+use Rattle.rig.specs.declared.host.Post.{Post}
+use Rattle.rig.specs.declared.link.Link.{Ghosts as LinkGhosts}
+use Rattle.rig.specs.declared.rig.Rig.{Ghosts as RigGhosts}
+use Rattle.rig.specs.declared.say.Say.{Ghosts as SayGhosts}
 use Rattle.v7_map.specs.Damage.{Sizes, passes}
-use Rattle.nfs_server.specs.Account.{Hold, history}
-use Rattle.nfs_server.specs.Worker.{Worker, Own, owned, Works}
-use Rattle.nfs_server.specs.Turns.{Did, EndsBy, datagrams}
-use Rattle.nfs_server.specs.Words.{Asked, asked_by}
-use Rattle.nfs_server.specs.Lines.{Said, usage_line, opened_line, stopped_line, numbers_line, no_disk_line, no_port_line}
-use Rattle.volume.specs.declared.fault.OpenFault.{OpenFault}
-use Rattle.volume.specs.declared.fault.OpenFault.TheVariants as open_fault
-use Rattle.volume.specs.Opens.{name_in}
-use Rattle.nfs_server.specs.declared.turning.Ended.{Ended}
-use Rattle.nfs_server.specs.declared.turning.Ended.TheVariants as ended
+use Rattle.v7_map.specs.Frame.{frame}
+use Rattle.volume.specs.Opens.{HasNoVolume, name_in}
+use Rattle.volume.specs.declared.fault.OpenFault.{OpenFault as VolumeFault}
+use Rattle.volume.specs.declared.fault.OpenFault.TheVariants as volume
+use Rattle.nfs_worker.specs.Account.{Hold, Grew, history}
+use Rattle.nfs_worker.specs.Turns.{Did, EndsBy, datagrams}
+use Rattle.nfs_worker.specs.Worker.{Own, owned, worker_of, Works}
+use Rattle.nfs_worker.specs.declared.pass.Numbers.{Numbers}
+use Rattle.nfs_worker.specs.declared.turning.Ended.{Ended}
+use Rattle.nfs_server.specs.Course.{Course, Start, Stop, Usage, NoRig, NoUnit, NoVolume, NoPost, Ran, StopsAs, stop_of, state_after, closing_status, closing_lines, status_of, lines_of, dids_of, rigs_in}
+use Rattle.nfs_server.specs.Kept.{Kept, FoundAs}
+use Rattle.nfs_server.specs.Lines.{no_port_line}
+use Rattle.nfs_server.specs.Refusals.{host_status, host_line}
+use Rattle.nfs_server.specs.Told.{Said, Told, Loan}
+use Rattle.nfs_server.specs.Words.{Asked, Options, asked_by}
+use Rattle.nfs_server.specs.declared.starting.Recovery.{Recovery}
 
--- ---- an opening
+-- ---- pairs of what was lent and what came back
 
--- a volume has sizes that can be, which is the first test of damage; an image of fewer than two sectors has none
-abbrev pub Opens : Image → Result (List ℕ) OpenFault → Type 0
-Opens image (Ok name) = (passes (frame image) Sizes ≡ true) × (name ≡ name_in image)
-Opens image (Err open_fault.Sizes) = passes (frame image) Sizes ≡ false
-Opens image (Err open_fault.Failed) = Unit {0}
+-- this holds of each thing that was lent and the one that came back for it
+abbrev pub EachPair : {A : Type 0} → (A → A → Type 0) → List A → List (ℕ × A) → Type 0
+EachPair P [] [] = Unit {0}
+EachPair P (x ∷ xs) (back ∷ backs) = P x back.1 × EachPair P xs backs
+EachPair P _ _ = ⊥
 
--- ---- the way of a run
-
--- How far a run came: the words aren't of the grammar; the host gave no rig over the disk; there is no volume; the host gave no post; a worker ran.
-pub data Course : Type 0 where
-  Usage : Course
-  NoRig : List ℕ → HostFault → Course
-  NoVolume : OpenFault → Course
-  NoPost : List ℕ → HostFault → Course
-  Ran : List ℕ → Ended → Did → Course
-
--- what the host's refusal gives
-abbrev pub refusal_status : HostFault → ℕ
-refusal_status host_fault.Failed = 66
-refusal_status host_fault.NoMemory = 75
-
-abbrev pub refusal_line : List ℕ → HostFault → List ℕ
-refusal_line missing host_fault.Failed = missing
-refusal_line missing host_fault.NoMemory = codes "no memory"
-
--- what the refusal of an opening gives
-abbrev pub opening_status : OpenFault → ℕ
-opening_status open_fault.Sizes = 68
-opening_status open_fault.Failed = 74
-
-abbrev pub opening_line : OpenFault → List ℕ
-opening_line open_fault.Sizes = codes "volume 0 damaged: sector 1 sizes"
-opening_line open_fault.Failed = codes "device failed on volume 0"
-
--- what the end of the worker gives
-abbrev pub end_status : Ended → ℕ
-end_status ended.Spent = 72
-end_status ended.Closed = 0
-end_status ended.Halted = 0
-
-abbrev pub end_lines : Ended → List (List ℕ)
-end_lines ended.Spent = codes "turns spent" ∷ []
-end_lines ended.Closed = []
-end_lines ended.Halted = []
-
--- the closing lines
-abbrev pub closing_lines : Ended → ℕ → ℕ → List (List ℕ)
-closing_lines way received answered = stopped_line ∷ numbers_line received answered (received - answered) ∷ end_lines way
-
-abbrev pub status_of : Course → ℕ
-status_of Usage = 64
-status_of (NoRig disk fault) = refusal_status fault
-status_of (NoVolume fault) = opening_status fault
-status_of (NoPost name fault) = refusal_status fault
-status_of (Ran name way did) = end_status way
-
-abbrev pub lines_of : Course → List (List ℕ)
-lines_of Usage = usage_line ∷ []
-lines_of (NoRig disk fault) = refusal_line (no_disk_line disk) fault ∷ []
-lines_of (NoVolume fault) = opening_line fault ∷ []
-lines_of (NoPost name fault) = opened_line name ∷ refusal_line no_port_line fault ∷ []
-lines_of (Ran name way did) = opened_line name ∷ closing_lines way (datagrams did.heard) (length did.replies)
-
--- what the workers did, if one ran
-abbrev pub dids_of : Course → List Did
-dids_of (Ran name way did) = did ∷ []
-dids_of Usage = []
-dids_of (NoRig disk fault) = []
-dids_of (NoVolume fault) = []
-dids_of (NoPost name fault) = []
-
--- what the words have to do with it
-abbrev pub Understood : List (List ℕ) → Course → Type 0
-Understood words Usage = asked_by words ≡ None
-Understood words (NoRig disk fault) = (turns : ℕ) × (asked_by words ≡ Some (record { disk = disk; turns = turns }))
-Understood words (NoVolume fault) = (asked : Asked) × (asked_by words ≡ Some asked)
-Understood words (NoPost name fault) = (asked : Asked) × (asked_by words ≡ Some asked)
-Understood words (Ran name way did) = (asked : Asked) × (asked_by words ≡ Some asked) × EndsBy way asked.turns did.heard
-
--- what the end of the worker says of the events that it took
-abbrev pub EndsAs : ℕ → Course → Type 0
-EndsAs turns Usage = Unit {0}
-EndsAs turns (NoRig disk fault) = Unit {0}
-EndsAs turns (NoVolume fault) = Unit {0}
-EndsAs turns (NoPost name fault) = Unit {0}
-EndsAs turns (Ran name way did) = EndsBy way turns did.heard
-
--- how many rigs the host gave
-abbrev pub rigs_in : Course → ℕ
-rigs_in Usage = 0
-rigs_in (NoRig disk fault) = 0
-rigs_in (NoVolume fault) = 1
-rigs_in (NoPost name fault) = 1
-rigs_in (Ran name way did) = 1
-
--- what the course says of the image found
-abbrev pub FoundAs : Course → Image → Type 0
-FoundAs Usage image = Unit {0}
-FoundAs (NoRig disk fault) image = Unit {0}
-FoundAs (NoVolume fault) image = Opens image (Err fault)
-FoundAs (NoPost name fault) image = Opens image (Ok name)
-FoundAs (Ran name way did) image = Opens image (Ok name)
-
--- a volume of that name was opened
-abbrev pub IsNamed : List ℕ → Course → Type 0
-IsNamed name Usage = ⊥
-IsNamed name (NoRig disk fault) = ⊥
-IsNamed name (NoVolume fault) = ⊥
-IsNamed name (NoPost found fault) = found ≡ name
-IsNamed name (Ran found way did) = found ≡ name
-
--- ---- what was lent
-
--- The things that a host gave since, in order, and those that came back to it.
-pub record Loan {S A : Type 0} (left_of : S → Option (List A)) (back_of : S → Option (List (ℕ × A))) (old new : S) (given : List A) (back : List (ℕ × A)) : Type 0 where
-  pub lent : left_of old ≡ option_map (λ rest. given ++ rest) (left_of new)
-  pub returned : back_of new ≡ option_map (λ before. before ++ back) (back_of old)
-
--- Each rig came back under its number, and has gone on by its holds.
+-- Each rig came back under its number, and this holds of it and its holds.
 abbrev pub Volumes : {R : Type 0} → (R → R → List Hold → Type 0) → ℕ → List R → List (ℕ × R) → List (List Hold) → Type 0
-Volumes grew n [] [] [] = Unit {0}
-Volumes grew n (rig ∷ rigs) (back ∷ backs) (holds ∷ more) = (back.0 ≡ n) × grew rig back.1 holds × Volumes grew (n + 1) rigs backs more
-Volumes grew n _ _ _ = ⊥
+Volumes kept n [] [] [] = Unit {0}
+Volumes kept n (rig ∷ rigs) (back ∷ backs) (holds ∷ more) = (back.0 ≡ n) × kept rig back.1 holds × Volumes kept (n + 1) rigs backs more
+Volumes kept n _ _ _ = ⊥
 
 -- Each post came back under its number, and its worker did this.
-abbrev pub Workers : {P : Type 0} → ℕ → (P → Worker) → ℕ → List P → List (ℕ × P) → List Did → Type 0
-Workers volumes seen n [] [] [] = Unit {0}
-Workers volumes seen n (post ∷ posts) (back ∷ backs) (did ∷ dids) = (back.0 ≡ n) × Works volumes n (seen post) (seen back.1) did.heard did.own did.replies × Workers volumes seen (n + 1) posts backs dids
-Workers volumes seen n _ _ _ = ⊥
+abbrev pub Workers : {L C P : Type 0} → LinkGhosts L → ℕ → ℕ → List (Post L C P) → List (ℕ × Post L C P) → List Did → Type 0
+Workers l volumes n [] [] [] = Unit {0}
+Workers l volumes n (post ∷ posts) (back ∷ backs) (did ∷ dids) =
+    (back.0 ≡ n) × Works volumes n (worker_of l post.link) (worker_of l back.1.link) did.heard did.own did.replies × Workers l volumes (n + 1) posts backs dids
+Workers l volumes n _ _ _ = ⊥
 
 -- the events of volume n and of those after it
 abbrev pub owned_from : ℕ → List (List Hold) → List Own
@@ -163,99 +61,192 @@ owned_from n (holds ∷ more) = owned n (history holds) ++ owned_from (n + 1) mo
 abbrev pub OfWorkers : List (List Hold) → List Did → Type 0
 OfWorkers volumes dids = owned_from 0 volumes ≡ flat_map (λ (did : Did). did.own) dids
 
+-- how often a clock's second changed between two posts, but for the first change
+abbrev pub changes_in : {L C P : Type 0} → ClockGhosts C → Post L C P → Post L C P → ℕ
+changes_in c post post' = c.changes post'.clock - c.changes post.clock - 1
+
+-- ---- what the words have to do with it
+
+-- the options that were asked for
+abbrev pub options_of : Option Asked → Options
+options_of None = record { turns = 0; down = false; accept_loss = false }
+options_of (Some asked) = asked.options
+
+-- the course by the words
+abbrev pub Understood : Option Asked → Course → Type 0
+Understood asked Usage = asked ≡ None
+Understood asked (NoRig word fault) = (given : Asked) × (asked ≡ Some given) × (given.volume.word ≡ word)
+Understood asked (NoUnit fault) = IsSome asked
+Understood asked (NoVolume fault) = IsSome asked
+Understood asked (NoPost start fault stop) = IsSome asked
+Understood asked (Ran start way did stop) = IsSome asked × EndsBy way (options_of asked).turns did.heard
+
+-- what the end of the worker says of the events that it took
+abbrev pub EndsAs : ℕ → Course → Type 0
+EndsAs turns (Ran start way did stop) = EndsBy way turns did.heard
+EndsAs turns Usage = Unit {0}
+EndsAs turns (NoRig word fault) = Unit {0}
+EndsAs turns (NoUnit fault) = Unit {0}
+EndsAs turns (NoVolume fault) = Unit {0}
+EndsAs turns (NoPost start fault stop) = Unit {0}
+
+-- ---- a run over a store
+
+-- The worker ran over its post, and the post came back. Nothing was said.
+pub record RanPost {S R L C P V : Type 0} (h : Ghosts S R L C P) (say : SayGhosts S) (l : LinkGhosts L) (c : ClockGhosts C) (s : StoreGhosts V) (old new : S) (store store' : V) (post : Post L C P) (turns : ℕ) (way : Ended) (numbers : Numbers) : Type 0 where
+  pub did : Did
+  pub back : Post L C P
+  pub holds : List Hold
+  pub rigs : SameLoans h.rigs_left h.rigs_back h.rigs_out old new
+  pub left : h.posts_left new ≡ h.posts_left old
+  pub returned : h.posts_back new ≡ gains (h.posts_back old) (0, back)
+  pub faults : h.host_faults new ≡ h.host_faults old
+  pub lines : SameLines say.lines say.say_faults old new
+  pub grows : Grew s store store' holds
+  pub works : Works 1 0 (worker_of l post.link) (worker_of l back.link) did.heard did.own did.replies
+  pub shared : owned 0 (history holds) ≡ did.own
+  pub ends : EndsBy way turns did.heard
+  pub received : numbers.received ≡ datagrams did.heard
+  pub answered : numbers.answered ≡ length did.replies
+  pub polled : RoseBy (changes_in c post back) (s.snapshot_of store).polls (s.snapshot_of store').polls
+
+-- The worker ran over its post, the volume was stopped, and the closing lines were said.
+pub record ServedPost {S R L C P V : Type 0} (h : Ghosts S R L C P) (say : SayGhosts S) (l : LinkGhosts L) (c : ClockGhosts C) (s : StoreGhosts V) (turns : ℕ) (old new : S) (store store' : V) (post : Post L C P) (result : ℕ) : Type 0 where
+  pub did : Did
+  pub back : Post L C P
+  pub holds : List Hold
+  pub way : Ended
+  pub stop : Stop
+  pub rigs : SameLoans h.rigs_left h.rigs_back h.rigs_out old new
+  pub left : h.posts_left new ≡ h.posts_left old
+  pub returned : h.posts_back new ≡ gains (h.posts_back old) (0, back)
+  pub faults : h.host_faults new ≡ h.host_faults old
+  pub grows : Grew s store store' holds
+  pub works : Works 1 0 (worker_of l post.link) (worker_of l back.link) did.heard did.own did.replies
+  pub shared : owned 0 (history holds) ≡ did.own
+  pub ends : EndsBy way turns did.heard
+  pub polled : RoseBy (changes_in c post back) (s.snapshot_of store).polls (s.snapshot_of store').polls
+  pub stopped : StopsAs (s.faults store) (s.faults store') (s.snapshot_of store') stop
+  pub status : result ≡ closing_status way stop.dirty
+  pub said : Said say old new (closing_lines stop way (datagrams did.heard) (length did.replies))
+
+-- The host gave no post: the volume was stopped.
+pub record RefusedPost {S R L C P V : Type 0} (h : Ghosts S R L C P) (say : SayGhosts S) (s : StoreGhosts V) (fault : HostFault) (old new : S) (store store' : V) (result : ℕ) : Type 0 where
+  pub told : Told h say old new (host_line no_port_line fault ∷ [])
+  pub keeps : KeepsImage s store store'
+  pub stopped : StopsAs (s.faults store) (s.faults store') (s.snapshot_of store') (stop_of (s.snapshot_of store'))
+  pub status : result ≡ host_status fault
+
+-- How a volume on a store was started, and stopped in the end.
+pub record IsRun {V : Type 0} (s : StoreGhosts V) (down : Bool) (recovery : Recovery) (store store' : V) (start : Start) (stop : Stop) : Type 0 where
+  pub recovered : start.recovered ≡ recovery.recovered
+  pub lost : start.lost ≡ recovery.lost
+  pub left : start.left ≡ (s.snapshot_of store).dirty
+  pub opened : start.opened ≡ (s.snapshot_of store).state
+  pub started : start.state ≡ state_after down start.opened start.battery
+  pub stopped : StopsAs (s.faults store) (s.faults store') (s.snapshot_of store') stop
+
+-- a volume of that name was started and stopped so
+abbrev pub RunsAs : {V : Type 0} → StoreGhosts V → Bool → Recovery → V → V → List ℕ → Course → Type 0
+RunsAs s down recovery store store' name (NoPost start fault stop) = (start.name ≡ name) × IsRun s down recovery store store' start stop
+RunsAs s down recovery store store' name (Ran start way did stop) = (start.name ≡ name) × IsRun s down recovery store store' start stop
+RunsAs s down recovery store store' name Usage = ⊥
+RunsAs s down recovery store store' name (NoRig word fault) = ⊥
+RunsAs s down recovery store store' name (NoUnit fault) = ⊥
+RunsAs s down recovery store store' name (NoVolume fault) = ⊥
+
+-- What a run over a store did, whose posts came back.
+pub record Served {S R L C P V : Type 0} (h : Ghosts S R L C P) (say : SayGhosts S) (l : LinkGhosts L) (c : ClockGhosts C) (s : StoreGhosts V) (turns : ℕ) (old new : S) (store store' : V) (course : Course) (result : ℕ) : Type 0 where
+  pub holds : List Hold
+  pub posts : List (Post L C P)
+  pub backs : List (ℕ × Post L C P)
+  pub rigs : SameLoans h.rigs_left h.rigs_back h.rigs_out old new
+  pub loan : Loan h.posts_left h.posts_back old new posts backs
+  pub grows : Grew s store store' holds
+  pub workers : Workers l 1 0 posts backs (dids_of course)
+  pub shared : OfWorkers (holds ∷ []) (dids_of course)
+  pub polled : EachPair (λ post post'. RoseBy (changes_in c post post') (s.snapshot_of store).polls (s.snapshot_of store').polls) posts backs
+  pub ends : EndsAs turns course
+  pub had_rig : rigs_in course ≡ 1
+  pub status : result ≡ status_of course
+  pub said : Said say old new (lines_of course)
+  pub host : result ≡ 66 → Rose (h.host_faults old) (h.host_faults new)
+  pub later : h.host_faults old ≤ h.host_faults new
+
+-- A run over an open volume of that name.
+pub record ServedOpen {S R L C P V : Type 0} (h : Ghosts S R L C P) (say : SayGhosts S) (l : LinkGhosts L) (c : ClockGhosts C) (s : StoreGhosts V) (options : Options) (recovery : Recovery) (name : List ℕ) (old new : S) (store store' : V) (result : ℕ) : Type 0 where
+  pub course : Course
+  pub served : Served h say l c s options.turns old new store store' course result
+  pub runs : RunsAs s options.down recovery store store' name course
+
+-- what the opening of a volume on a store came to
+abbrev pub OpensAs : {V : Type 0} → StoreGhosts V → Bool → Recovery → V → V → Course → Type 0
+OpensAs s down recovery store store' (NoVolume fault) = (s.tells → HasNoVolume (s.image store) fault) × (fault ≡ volume.Failed → Rose (s.faults store) (s.faults store'))
+OpensAs s down recovery store store' (NoPost start fault stop) =
+    (s.tells → passes (frame (s.image store)) Sizes ≡ true) × (s.tells → start.name ≡ name_in (s.image store)) × IsRun s down recovery store store' start stop
+OpensAs s down recovery store store' (Ran start way did stop) =
+    (s.tells → passes (frame (s.image store)) Sizes ≡ true) × (s.tells → start.name ≡ name_in (s.image store)) × IsRun s down recovery store store' start stop
+OpensAs s down recovery store store' Usage = ⊥
+OpensAs s down recovery store store' (NoRig word fault) = ⊥
+OpensAs s down recovery store store' (NoUnit fault) = ⊥
+
+-- A run over a store.
+pub record ServedVolume {S R L C P V : Type 0} (h : Ghosts S R L C P) (say : SayGhosts S) (l : LinkGhosts L) (c : ClockGhosts C) (s : StoreGhosts V) (options : Options) (recovery : Recovery) (old new : S) (store store' : V) (result : ℕ) : Type 0 where
+  pub course : Course
+  pub served : Served h say l c s options.turns old new store store' course result
+  pub opens : OpensAs s options.down recovery store store' course
+
+-- ---- a run over rigs
+
+-- A run over one rig.
+pub record ServedRig {S H R L C P : Type 0} (h : Ghosts S H L C P) (say : SayGhosts S) (r : RigGhosts R) (l : LinkGhosts L) (c : ClockGhosts C) (options : Options) (old new : S) (rig back : R) (result : ℕ) : Type 0 where
+  pub course : Course
+  pub holds : List Hold
+  pub posts : List (Post L C P)
+  pub backs : List (ℕ × Post L C P)
+  pub rigs : SameLoans h.rigs_left h.rigs_back h.rigs_out old new
+  pub loan : Loan h.posts_left h.posts_back old new posts backs
+  pub kept : Kept r rig back holds
+  pub found : FoundAs r options course rig back
+  pub workers : Workers l 1 0 posts backs (dids_of course)
+  pub shared : OfWorkers (holds ∷ []) (dids_of course)
+  pub polled : EachPair (λ post post'. RoseBy (changes_in c post post') 0 (r.readings back).count) posts backs
+  pub ends : EndsAs options.turns course
+  pub had_rig : rigs_in course ≡ 1
+  pub status : result ≡ status_of course
+  pub said : Said say old new (lines_of course)
+  pub device : result ≡ 74 → Rose (r.faults rig) (r.faults back)
+  pub host : result ≡ 66 → Rose (h.host_faults old) (h.host_faults new)
+  pub later : h.host_faults old ≤ h.host_faults new
+
 -- some rig's count rose
 abbrev pub AnyRose : {R : Type 0} → (R → ℕ) → List R → List (ℕ × R) → Type 0
 AnyRose faults (rig ∷ rigs) (back ∷ backs) = Rose (faults rig) (faults back.1) ⊎ AnyRose faults rigs backs
 AnyRose faults [] backs = ⊥
 AnyRose faults (rig ∷ rigs) [] = ⊥
 
--- what a `say` leaves as it was
-pub record OnlyTold {S A B C D : Type 0} (rigs_left : S → A) (rigs_back : S → B) (rigs_out : S → ℕ) (posts_left : S → C) (posts_back : S → D) (posts_out : S → ℕ) (host_faults : S → ℕ) (old new : S) : Type 0 where
-  pub rigs : SameLoans rigs_left rigs_back rigs_out old new
-  pub posts : SameLoans posts_left posts_back posts_out old new
-  pub faults : host_faults new ≡ host_faults old
-
--- what is seen of a post
-abbrev pub post_of : {L C P : Type 0} → (L → Worker) → Post L C P → Worker
-post_of link_of post = link_of post.link
-
--- What a run over one rig and one post did; the post came back.
-pub record ServedPost {S R P : Type 0} (grew : R → R → List Hold → Type 0) (posts_left : S → Option (List P)) (posts_back : S → Option (List (ℕ × P))) (seen : P → Worker)
-    (lines : S → Option (List (List ℕ))) (say_faults : S → ℕ) (old new : S) (rig rig' : R) (post : P) (result turns : ℕ) : Type 0 where
-  pub did : Did
-  pub way : Ended
-  pub back : P
-  pub holds : List Hold
-  pub left : posts_left new ≡ posts_left old
-  pub returned : posts_back new ≡ gains (posts_back old) (0, back)
-  pub grows : grew rig rig' holds
-  pub works : Works 1 0 (seen post) (seen back) did.heard did.own did.replies
-  pub shared : owned 0 (history holds) ≡ did.own
-  pub ends : EndsBy way turns did.heard
-  pub status : result ≡ end_status way
-  pub said : Said lines say_faults old new (closing_lines way (datagrams did.heard) (length did.replies))
-
--- What a run over an open volume of that name did; the posts that it asked for came back.
-pub record ServedOpen {S R P : Type 0} (grew : R → R → List Hold → Type 0) (posts_left : S → Option (List P)) (posts_back : S → Option (List (ℕ × P))) (seen : P → Worker)
-    (host_faults : S → ℕ) (lines : S → Option (List (List ℕ))) (say_faults : S → ℕ) (old new : S) (rig rig' : R) (name : List ℕ) (result turns : ℕ) : Type 0 where
-  pub course : Course
-  pub holds : List Hold
-  pub posts : List P
-  pub backs : List (ℕ × P)
-  pub named : IsNamed name course
-  pub loan : Loan posts_left posts_back old new posts backs
-  pub grows : grew rig rig' holds
-  pub workers : Workers 1 seen 0 posts backs (dids_of course)
-  pub shared : OfWorkers (holds ∷ []) (dids_of course)
-  pub ends : EndsAs turns course
-  pub had_rig : rigs_in course ≡ 1
-  pub status : result ≡ status_of course
-  pub said : Said lines say_faults old new (lines_of course)
-  pub device : result ≢ 74
-  pub host : result ≡ 66 → Rose (host_faults old) (host_faults new)
-  pub later : host_faults old ≤ host_faults new
-
--- What a run over one rig did; the posts that it asked for came back.
-pub record ServedVolume {S R P : Type 0} (tells : Type 0) (image : R → Image) (grew : R → R → List Hold → Type 0) (faults : R → ℕ) (posts_left : S → Option (List P)) (posts_back : S → Option (List (ℕ × P))) (seen : P → Worker)
-    (host_faults : S → ℕ) (lines : S → Option (List (List ℕ))) (say_faults : S → ℕ) (old new : S) (rig rig' : R) (result turns : ℕ) : Type 0 where
-  pub course : Course
-  pub holds : List Hold
-  pub posts : List P
-  pub backs : List (ℕ × P)
-  pub loan : Loan posts_left posts_back old new posts backs
-  pub grows : grew rig rig' holds
-  pub workers : Workers 1 seen 0 posts backs (dids_of course)
-  pub shared : OfWorkers (holds ∷ []) (dids_of course)
-  pub ends : EndsAs turns course
-  pub opened : tells → FoundAs course (image rig)
-  pub had_rig : rigs_in course ≡ 1
-  pub status : result ≡ status_of course
-  pub said : Said lines say_faults old new (lines_of course)
-  pub device : result ≡ 74 → Rose (faults rig) (faults rig')
-  pub host : result ≡ 66 → Rose (host_faults old) (host_faults new)
-  pub later : host_faults old ≤ host_faults new
-
 -- What a run did, over all rigs and posts that the host gave.
-pub record Outcome {S R P : Type 0} (tells : Type 0) (image : R → Image) (grew : R → R → List Hold → Type 0) (faults : R → ℕ) (rigs_left : S → Option (List R)) (rigs_back : S → Option (List (ℕ × R)))
-    (posts_left : S → Option (List P)) (posts_back : S → Option (List (ℕ × P))) (seen : P → Worker) (host_faults : S → ℕ) (lines : S → Option (List (List ℕ))) (say_faults : S → ℕ) (words : List (List ℕ)) (old new : S) (result : ℕ) : Type 0 where
+pub record Outcome {S R L C P : Type 0} (h : Ghosts S R L C P) (say : SayGhosts S) (r : RigGhosts R) (l : LinkGhosts L) (c : ClockGhosts C) (words : List (List ℕ)) (old new : S) (result : ℕ) : Type 0 where
   pub course : Course
   pub rigs : List R
   pub rig_backs : List (ℕ × R)
   pub volumes : List (List Hold)
-  pub posts : List P
-  pub post_backs : List (ℕ × P)
+  pub posts : List (Post L C P)
+  pub post_backs : List (ℕ × Post L C P)
   -- every rig and post that the host gave came back
-  pub rig_loan : Loan rigs_left rigs_back old new rigs rig_backs
-  pub post_loan : Loan posts_left posts_back old new posts post_backs
-  -- each volume's history, and each worker's part of them
-  pub grown : Volumes grew 0 rigs rig_backs volumes
-  pub workers : Workers 1 seen 0 posts post_backs (dids_of course)
+  pub rig_loan : Loan h.rigs_left h.rigs_back old new rigs rig_backs
+  pub post_loan : Loan h.posts_left h.posts_back old new posts post_backs
+  -- each volume's history and what is kept of it, and each worker's part of the histories
+  pub kept : Volumes (Kept r) 0 rigs rig_backs volumes
+  pub workers : Workers l 1 0 posts post_backs (dids_of course)
   pub shared : OfWorkers volumes (dids_of course)
+  -- each battery was read as often as each clock's second changed, but for its first change
+  pub polled : EachPair (λ rig rig'. EachPair (λ post post'. RoseBy (changes_in c post post') 0 (r.readings rig').count) posts post_backs) rigs rig_backs
   -- the status, the lines and their causes
-  pub understood : Understood words course
-  pub opened : tells → AllByRecursion (λ (rig : R). FoundAs course (image rig)) rigs
+  pub understood : Understood (asked_by words) course
+  pub found : EachPair (FoundAs r (options_of (asked_by words)) course) rigs rig_backs
   pub given : length rigs ≡ rigs_in course
   pub status : result ≡ status_of course
-  pub said : Said lines say_faults old new (lines_of course)
-  pub device : result ≡ 74 → AnyRose faults rigs rig_backs
-  pub host : result ≡ 66 → Rose (host_faults old) (host_faults new)
+  pub said : Said say old new (lines_of course)
+  pub device : result ≡ 74 → AnyRose r.faults rigs rig_backs
+  pub host : result ≡ 66 → Rose (h.host_faults old) (h.host_faults new)

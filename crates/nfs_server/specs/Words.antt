@@ -1,17 +1,47 @@
 -- The words of the command line (docs/CALLS.md, "Words").
-use Rattle.std.specs.Prelude.{ℕ, ◌+◌, ◌-◌, ◌*◌, Bool, not, ◌&&◌, List, [], ◌∷◌, length, Option, Some, None, nat_le, nat_lt, nat_eq, if◌then◌else◌, codes}
-use Rattle.std.specs.List.{list_any}
+use Rattle.std.specs.Prelude.{ℕ, ◌+◌, ◌-◌, ◌*◌, Bool, true, false, not, ◌&&◌, List, [], ◌∷◌, length, Option, Some, None, nat_eq, nat_le, nat_lt, if◌then◌else◌, codes}
 use Rattle.std.specs.Str.{bytes_eq}
 use Rattle.std.specs.Option.{option_map, option_and_then}
 
--- what the words ask for: a disk, and how many turns the worker takes
-pub record Asked : Type 0 where
+-- a disk, and a board in front of it if there is one; `word` is the word that names them
+pub record Named : Type 0 where
+  pub word : List ℕ
   pub disk : List ℕ
-  pub turns : ℕ
+  pub board : Option (List ℕ)
 
--- one to 200 bytes, none a colon
-abbrev pub is_disk : List ℕ → Bool
-is_disk bytes = nat_le 1 (length bytes) && nat_le (length bytes) 200 && not (list_any (λ b. nat_eq b 58) bytes)
+-- how many turns the worker takes, whether the volume stays DOWN, and whether the loss of its board is accepted
+pub record Options : Type 0 where
+  pub turns : ℕ
+  pub down : Bool
+  pub accept_loss : Bool
+
+-- what the words ask for
+pub record Asked : Type 0 where
+  pub volume : Named
+  pub options : Options
+
+-- one to 200 bytes
+abbrev pub is_part : List ℕ → Bool
+is_part bytes = nat_le 1 (length bytes) && nat_le (length bytes) 200
+
+-- the word names a disk; or a disk and another board, where it is cut in two
+abbrev pub named_parts : List ℕ → Option (List ℕ × List ℕ) → Option Named
+named_parts word None = if is_part word then Some (record { word = word; disk = word; board = None }) else None
+named_parts word (Some parts) = if is_part parts.0 && is_part parts.1 && not (bytes_eq parts.0 parts.1) then Some (record { word = word; disk = parts.0; board = Some parts.1 }) else None
+
+-- what stands before and after the last colon, of a byte and of what was found in the bytes after it
+abbrev pub cut_with : ℕ → List ℕ → Option (List ℕ × List ℕ) → Option (List ℕ × List ℕ)
+cut_with b bytes (Some parts) = Some (b ∷ parts.0, parts.1)
+cut_with b bytes None = if nat_eq b 58 then Some ([], bytes) else None
+
+-- the bytes before and after the last colon, if there is one
+abbrev pub cut_last : List ℕ → Option (List ℕ × List ℕ)
+cut_last [] = None
+cut_last (b ∷ bytes) = cut_with b bytes (cut_last bytes)
+
+-- DISK, or DISK:BOARD, cut at the last colon
+abbrev pub named_by : List ℕ → Option Named
+named_by word = named_parts word (cut_last word)
 
 abbrev pub most_turns : ℕ
 most_turns = 1000000000
@@ -34,13 +64,38 @@ abbrev pub without_workers : List (List ℕ) → List (List ℕ)
 without_workers (option ∷ value ∷ rest) = if bytes_eq option (codes "--workers") && bytes_eq value (codes "1") then rest else option ∷ value ∷ rest
 without_workers rest = rest
 
--- the turns that the last words name
-abbrev pub turns_in : List (List ℕ) → Option ℕ
-turns_in [] = Some 1000000
-turns_in (option ∷ value ∷ []) = if bytes_eq option (codes "--turns") then turns_of_text value else None
-turns_in _ = None
+-- the turns that the next two words name, or as many as there are without them, and the words after them
+abbrev pub turns_in : List (List ℕ) → Option (ℕ × List (List ℕ))
+turns_in (option ∷ value ∷ rest) = if bytes_eq option (codes "--turns") then option_map (λ turns. (turns, rest)) (turns_of_text value) else Some (1000000, option ∷ value ∷ rest)
+turns_in rest = Some (1000000, rest)
+
+-- whether the next word is this flag
+abbrev pub has_flag : List ℕ → List (List ℕ) → Bool
+has_flag flag [] = false
+has_flag flag (word ∷ rest) = bytes_eq word flag
+
+-- the words after this flag
+abbrev pub without_flag : List ℕ → List (List ℕ) → List (List ℕ)
+without_flag flag [] = []
+without_flag flag (word ∷ rest) = if bytes_eq word flag then rest else word ∷ rest
+
+-- these options, where no word is left
+abbrev pub options_of : ℕ → Bool → Bool → List (List ℕ) → Option Options
+options_of turns down accept_loss [] = Some (record { turns = turns; down = down; accept_loss = accept_loss })
+options_of turns down accept_loss (word ∷ rest) = None
+
+abbrev pub loss_in : ℕ → Bool → List (List ℕ) → Option Options
+loss_in turns down words = options_of turns down (has_flag (codes "--accept-loss") words) (without_flag (codes "--accept-loss") words)
+
+-- the flags that the last words are, in this order
+abbrev pub flags_in : ℕ → List (List ℕ) → Option Options
+flags_in turns words = loss_in turns (has_flag (codes "--down") words) (without_flag (codes "--down") words)
+
+-- what the options ask for
+abbrev pub options_in : List (List ℕ) → Option Options
+options_in words = option_and_then (λ (found : ℕ × List (List ℕ)). flags_in found.0 found.1) (turns_in (without_workers words))
 
 -- what all words ask for; none where they aren't of the grammar
 abbrev pub asked_by : List (List ℕ) → Option Asked
 asked_by [] = None
-asked_by (disk ∷ rest) = if is_disk disk then option_map (λ turns. record { disk = disk; turns = turns }) (turns_in (without_workers rest)) else None
+asked_by (word ∷ rest) = option_and_then (λ (volume : Named). option_map (λ (options : Options). record { volume = volume; options = options }) (options_in rest)) (named_by word)

@@ -1,24 +1,15 @@
-//! The server: words, volumes, workers and their turns.
+//! The server: its words, its volumes and what they stand on, and a run from its words to its status.
 #![tactic(auto)]
 
-mod cells;
-mod direct;
 mod lines;
-mod pass;
-mod releasing;
+mod refusing;
 mod running;
-mod serving;
-pub mod taking;
-mod turning;
+mod starting;
+mod telling;
 mod words;
-mod working;
 
-pub use cells::Cells;
-pub use pass::{Numbers, ServerPass};
-pub use releasing::{Ready, Released, release};
-pub use running::{USAGE, serve};
-pub use turning::{DropCause, Ended, Turn};
-pub use working::work;
+pub use running::serve;
+pub use telling::USAGE;
 
 #[cfg(test)]
 mod tests;

@@ -1,170 +1,145 @@
 //! A run of the server, from its words to its status.
-ghost use Rattle.std.specs.Prelude.{◌≡◌, ℕ, ◌+◌, ◌<◌, ◌≤◌, ◌↔◌, ◌∷◌, [], None, Some, length, map, string_bytes};
-ghost use Rattle.stable.specs.Counts.{Rose};
+ghost use Rattle.std.specs.Prelude.{◌≡◌, ◌<◌, ◌≤◌, ◌↔◌, None, map, string_bytes};
 ghost use Rattle.rig.specs.Hosts.{SameLoans};
-ghost use Rattle.rig.specs.Links.{gains};
-ghost use Rattle.nfs_server.specs.Account.{Grew};
-ghost use Rattle.nfs_server.specs.Disks.{disk_of, disks_since};
-ghost use Rattle.nfs_server.specs.Lines.{Said};
-ghost use Rattle.nfs_server.specs.Run.{OnlyTold, ServedPost, ServedOpen, ServedVolume, Outcome, post_of, refusal_status, refusal_line, opening_status, opening_line, end_status, closing_lines};
-ghost use Rattle.nfs_server.specs.Words.{Asked, asked_by};
-ghost use Rattle.nfs_server.specs.Worker.{worker_of};
+ghost use Rattle.nfs_server.specs.Asking.{options_read};
+ghost use Rattle.nfs_server.specs.Run.{RanPost, ServedPost, ServedOpen, ServedVolume, ServedRig, Outcome, RefusedPost};
+ghost use Rattle.nfs_server.specs.Words.{asked_by};
 ghost use Rattle.volume.specs.Mounted.{store_of, name_of};
 
-use crate::cells::Cells;
-use crate::direct::Direct;
-use crate::lines::{no_disk_line, numbers_line, opened_line};
-use crate::pass::{Numbers, ServerPass};
-use crate::turning::Ended;
-use crate::words::read_words;
-use crate::working::work;
-use rig::{Host, HostFault, Post};
+use crate::lines::{line_of, no_volume_line};
+use crate::refusing::{host_refusal, unit_refusal, volume_refusal};
+use crate::starting::{Recovery, start, stop};
+use crate::telling::{USAGE, close, refuse, tell, tell_start};
+use crate::words::{Options, read_words};
+use nfs_worker::{Cells, Ended, Numbers, ServerPass, work};
+use presto_recover::{Opened, open};
+use rig::{Host, HostFault, Post, Rig};
 use stable::Tended;
 use std::alloc::Global;
-use volume::{OpenFault, Volume};
+use volume::Volume;
 
 /// The port of NFS (RFC 1094 appendix).
 const PORT: u16 = 2049;
 
-/// What is said where the words aren't of the grammar.
-pub const USAGE: &str =
-    "usage: nfsd VOLUME.. [--workers N] [--turns T] [--port P] [--down] [--accept-loss]";
-
-// Says a line. A failure is passed over.
-fn tell<H: Host>(host: &mut H, line: &str)
-    ensures only { OnlyTold H.rigs_left H.rigs_back H.rigs_out H.posts_left H.posts_back H.posts_out H.host_faults host.old host.new }
-    ensures said { Said H.lines H.say_faults host.old host.new (line.now ∷ []) }
-{
-    let _said = host.say(line);
-}
-
-// Says why the host gave nothing, and answers the status for it.
-fn refuse<H: Host>(host: &mut H, fault: HostFault, missing: &str) -> u8
-    ensures only { OnlyTold H.rigs_left H.rigs_back H.rigs_out H.posts_left H.posts_back H.posts_out H.host_faults host.old host.new }
-    ensures said { Said H.lines H.say_faults host.old host.new (refusal_line missing.now fault ∷ []) }
-    ensures status { result ≡ refusal_status fault }
-{
-    match fault {
-        HostFault::Failed => {
-            tell(host, missing);
-            66
-        }
-        HostFault::NoMemory => {
-            tell(host, "no memory");
-            75
-        }
-    }
-}
-
-// Says why there is no volume, and answers the status for it.
-fn give_up<H: Host>(host: &mut H, fault: OpenFault) -> u8
-    ensures only { OnlyTold H.rigs_left H.rigs_back H.rigs_out H.posts_left H.posts_back H.posts_out H.host_faults host.old host.new }
-    ensures said { Said H.lines H.say_faults host.old host.new (opening_line fault ∷ []) }
-    ensures status { result ≡ opening_status fault }
-{
-    match fault {
-        OpenFault::Sizes => {
-            tell(host, "volume 0 damaged: sector 1 sizes");
-            68
-        }
-        OpenFault::Failed => {
-            tell(host, "device failed on volume 0");
-            74
-        }
-    }
-}
-
-// Says the closing lines, and answers the status of the worker's end.
-fn close<H: Host>(host: &mut H, ended: Ended, numbers: Numbers) -> u8
-    ensures only { OnlyTold H.rigs_left H.rigs_back H.rigs_out H.posts_left H.posts_back H.posts_out H.host_faults host.old host.new }
-    ensures said { Said H.lines H.say_faults host.old host.new (closing_lines ended numbers.received numbers.answered) }
-    ensures status { result ≡ end_status ended }
-{
-    tell(host, "volume 0 down dirty 0");
-    tell(host, numbers_line(numbers).as_str());
-    match ended {
-        Ended::Closed => 0,
-        Ended::Halted => 0,
-        Ended::Spent => {
-            tell(host, "turns spent");
-            72
-        }
-    }
-}
-
 // Runs the worker over its post, and gives the post back.
-fn serve_post<H: Host, S: Tended>(
+fn run_worker<H: Host, S: Tended>(
     host: &mut H,
     cells: &mut Cells<S>,
     post: Post<H::L, H::C, H::P>,
+    second: u32,
     turns: u64,
-) -> u8
+) -> (Ended, Numbers)
     requires out { 0 < H.posts_out host.old }
     requires few { turns ≤ 1000000000 }
-    ensures rigs { SameLoans H.rigs_left H.rigs_back H.rigs_out host.old host.new }
-    ensures faults { H.host_faults host.new ≡ H.host_faults host.old }
-    ensures served { ServedPost (Grew S.tells S.image S.faults S.moment S.left_since) H.posts_left H.posts_back (post_of (worker_of H.L.left H.L.sent H.L.faults))
-        H.lines H.say_faults host.old host.new (store_of cells.old.volume) (store_of cells.new.volume) post result turns }
+    ensures ran { RanPost H.Host.own H.Say H.L.Link H.C.Clock S.Stable host.old host.new (store_of cells.old.volume) (store_of cells.new.volume) post turns result.0 result.1 }
 {
     let mut post = post;
-    let mut pass = ServerPass::new(0, host.now());
+    let mut pass = ServerPass::new(0, second);
     let ended = work(cells, &mut post, &mut pass, turns);
     host.give_back_post(0, post);
-    close(host, ended, pass.numbers)
+    (ended, pass.numbers)
 }
 
-// Runs a worker over an open volume.
+// Runs the worker, stops the volume, and says the closing lines.
+fn serve_post<H: Host, S: Tended>(
+    host: &mut H,
+    cells: Cells<S>,
+    post: Post<H::L, H::C, H::P>,
+    second: u32,
+    turns: u64,
+) -> (u8, S)
+    requires out { 0 < H.posts_out host.old }
+    requires few { turns ≤ 1000000000 }
+    ensures served { ServedPost H.Host.own H.Say H.L.Link H.C.Clock S.Stable turns host.old host.new (store_of cells.volume) result.1 post result.0 }
+{
+    let mut cells = cells;
+    let (ended, numbers) = run_worker(host, &mut cells, post, second, turns);
+    stop(&mut cells.volume);
+    let status = close(host, cells.volume.snapshot(), ended, numbers);
+    let Cells { alloc: _, volume } = cells;
+    (status, volume.into_store())
+}
+
+// Stops the volume, since the host gave no post.
+fn refuse_post<H: Host, S: Tended>(
+    host: &mut H,
+    volume: Volume<S>,
+    fault: HostFault,
+) -> (u8, S)
+    ensures { RefusedPost H.Host.own H.Say S.Stable fault host.old host.new (store_of volume) result.1 result.0 }
+{
+    let mut volume = volume;
+    stop(&mut volume);
+    let status = refuse(host, host_refusal(fault, line_of("cannot open port 2049")));
+    (status, volume.into_store())
+}
+
+// Starts an open volume, and runs a worker over it; the second is that of the opening.
 fn serve_open<H: Host, S: Tended>(
     alloc: Global,
     host: &mut H,
     volume: Volume<S>,
-    turns: u64,
+    second: u32,
+    recovery: Recovery,
+    options: Options,
 ) -> (u8, S)
-    requires few { turns ≤ 1000000000 }
-    ensures rigs { SameLoans H.rigs_left H.rigs_back H.rigs_out host.old host.new }
-    ensures served { ServedOpen (Grew S.tells S.image S.faults S.moment S.left_since) H.posts_left H.posts_back (post_of (worker_of H.L.left H.L.sent H.L.faults))
-        H.host_faults H.lines H.say_faults host.old host.new (store_of volume) result.1 (name_of volume) result.0 turns }
+    requires few { options.turns ≤ 1000000000 }
+    ensures served { ServedOpen H.Host.own H.Say H.L.Link H.C.Clock S.Stable (options_read options) recovery (name_of volume) host.old host.new (store_of volume) result.1 result.0 }
 {
-    tell(host, opened_line(&volume.name()).as_str());
+    let mut volume = volume;
+    start(&mut volume, options.down);
+    tell_start(host, &volume.name(), volume.snapshot().state, recovery);
     match host.post(PORT, 0) {
-        Err(fault) => (
-            refuse(host, fault, "cannot open port 2049"),
-            volume.into_store(),
-        ),
-        Ok(post) => {
-            let mut cells = Cells { alloc, volume };
-            let status = serve_post(host, &mut cells, post, turns);
-            let Cells { alloc: _, volume } = cells;
-            (status, volume.into_store())
-        }
+        Err(fault) => refuse_post(host, volume, fault),
+        Ok(post) => serve_post(host, Cells { alloc, volume }, post, second, options.turns),
     }
 }
 
 // Opens the volume on a store, and runs a worker over it.
-fn serve_volume<H: Host, S: Tended>(alloc: Global, host: &mut H, store: S, turns: u64) -> (u8, S)
-    requires few { turns ≤ 1000000000 }
-    ensures rigs { SameLoans H.rigs_left H.rigs_back H.rigs_out host.old host.new }
-    ensures served { ServedVolume S.tells S.image (Grew S.tells S.image S.faults S.moment S.left_since) S.faults H.posts_left H.posts_back (post_of (worker_of H.L.left H.L.sent H.L.faults))
-        H.host_faults H.lines H.say_faults host.old host.new store result.1 result.0 turns }
+fn serve_volume<H: Host, S: Tended>(
+    alloc: Global,
+    host: &mut H,
+    store: S,
+    recovery: Recovery,
+    options: Options,
+) -> (u8, S)
+    requires few { options.turns ≤ 1000000000 }
+    ensures served { ServedVolume H.Host.own H.Say H.L.Link H.C.Clock S.Stable (options_read options) recovery host.old host.new store result.1 result.0 }
 {
+    let second = host.now();
     match Volume::open(alloc, store) {
-        Err((fault, store)) => (give_up(host, fault), store),
-        Ok(volume) => serve_open(alloc, host, volume, turns),
+        Err((fault, store)) => (refuse(host, volume_refusal(fault)), store),
+        Ok(volume) => serve_open(alloc, host, volume, second, recovery, options),
     }
 }
 
-// Runs over one rig, and gives it back.
-fn serve_rig<H: Host>(alloc: Global, host: &mut H, rig: H::R, turns: u64) -> u8
-    requires out { 0 < H.rigs_out host.old }
-    requires few { turns ≤ 1000000000 }
-    ensures left { H.rigs_left host.new ≡ H.rigs_left host.old }
-    ensures served { (back : H.R) × (H.rigs_back host.new ≡ gains (H.rigs_back host.old) (0, back))
-        × ServedVolume H.R.tells (disk_of H.R.contents) (Grew H.R.tells (disk_of H.R.contents) H.R.faults H.R.moment (disks_since H.R.left_since)) H.R.faults H.posts_left H.posts_back (post_of (worker_of H.L.left H.L.sent H.L.faults))
-        H.host_faults H.lines H.say_faults host.old host.new rig back result turns }
+// Opens disk and board of one rig, and runs over them.
+fn serve_rig<H: Host, R: Rig + Drop>(
+    alloc: Global,
+    host: &mut H,
+    rig: R,
+    options: Options,
+) -> (u8, R)
+    requires few { options.turns ≤ 1000000000 }
+    ensures served { ServedRig H.Host.own H.Say R.Rig H.L.Link H.C.Clock (options_read options) host.old host.new rig result.1 result.0 }
 {
-    let (status, store) = serve_volume(alloc, host, Direct::new(rig), turns);
-    host.give_back_rig(0, store.into_rig());
-    status
+    match open(alloc, rig, options.accept_loss) {
+        Err((fault, rig)) => (refuse(host, unit_refusal(fault)), rig),
+        Ok(
+            Opened {
+                presto,
+                recovered,
+                lost,
+            },
+        ) => {
+            let recovery = Recovery { recovered, lost };
+            let (status, unit) = serve_volume(alloc, host, presto, recovery, options);
+            let rig = unit.into_rig();
+            // its contract says that the number of sectors has 32 bits
+            let _sectors = rig.sectors();
+            (status, rig)
+        }
+    }
 }
 
 /// Serves the volume that the words name, with one worker, until its link ends or its turns are spent. The result is the
@@ -172,16 +147,19 @@ fn serve_rig<H: Host>(alloc: Global, host: &mut H, rig: H::R, turns: u64) -> u8
 pub fn serve<H: Host>(alloc: Global, words: &[String], host: &mut H) -> u8
     // The words alone decide on the usage line.
     ensures usage { result ≡ 64 ↔ asked_by (map string_bytes words.now) ≡ None }
-    // What was lent came back; the calls on the volume are one history, whose replies are those sent, and which crashes keep.
-    ensures outcome { Outcome H.R.tells (disk_of H.R.contents) (Grew H.R.tells (disk_of H.R.contents) H.R.faults H.R.moment (disks_since H.R.left_since)) H.R.faults H.rigs_left H.rigs_back H.posts_left H.posts_back
-        (post_of (worker_of H.L.left H.L.sent H.L.faults)) H.host_faults H.lines H.say_faults (map string_bytes words.now) host.old host.new result }
+    // What was lent came back; the calls on the volume are one history, whose replies are those sent, and which sound crashes keep.
+    ensures outcome { Outcome H.Host.own H.Say H.R.Rig H.L.Link H.C.Clock (map string_bytes words.now) host.old host.new result }
 {
     let Some(asked) = read_words(words) else {
         tell(host, USAGE);
         return 64;
     };
-    match host.rig(asked.disk, None) {
-        Err(fault) => refuse(host, fault, no_disk_line(asked.disk).as_str()),
-        Ok(rig) => serve_rig(alloc, host, rig, asked.turns),
+    match host.rig(asked.volume.disk, asked.volume.board) {
+        Err(fault) => refuse(host, host_refusal(fault, no_volume_line(asked.volume.word))),
+        Ok(rig) => {
+            let (status, rig) = serve_rig(alloc, host, rig, asked.options);
+            host.give_back_rig(0, rig);
+            status
+        }
     }
 }

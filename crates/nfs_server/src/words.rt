@@ -1,30 +1,88 @@
 //! The words of the command line.
-ghost use Rattle.std.specs.Prelude.{◌≡◌, ◌≤◌, MatchOption, IfSome, map, string_bytes, None, Some, nat_eq, length};
-ghost use Rattle.std.specs.List.{list_any};
-ghost use Rattle.nfs_server.specs.Words.{asked_by, is_disk, digits, turns_of_text, without_workers, turns_in};
+ghost use Rattle.std.specs.Prelude.{◌≡◌, ◌≤◌, ◌+◌, length, MatchOption, IfSome, map, string_bytes, None, Some};
+ghost use Rattle.std.specs.Option.{option_map};
+ghost use Rattle.nfs_server.specs.Words.{asked_by, is_part, named_parts, named_by, digits, turns_of_text, without_workers, turns_in, has_flag, without_flag, options_of, options_in};
+ghost use Rattle.nfs_server.specs.Asking.{named_of, options_read, asked_of};
+
+/// A disk, and a board in front of it if there is one.
+#[derive(Clone, Copy)]
+pub struct Named<'a> {
+    /// The word that names them.
+    pub word: &'a str,
+    /// The file of the disk.
+    pub disk: &'a str,
+    /// The file of the board.
+    pub board: Option<&'a str>,
+}
+
+/// What the options say.
+#[derive(Clone, Copy)]
+pub struct Options {
+    /// How many events the worker takes at the most, from 1 to 1,000,000,000.
+    pub turns: u64,
+    /// Whether the volume stays DOWN.
+    pub down: bool,
+    /// Whether it is accepted that the board lost its memory.
+    pub accept_loss: bool,
+}
 
 /// What the words ask for.
 #[derive(Clone, Copy)]
 pub struct Asked<'a> {
-    /// The file of the disk.
-    pub disk: &'a str,
-    /// How many events the worker takes at the most, from 1 to 1,000,000,000.
-    pub turns: u64,
+    pub volume: Named<'a>,
+    pub options: Options,
 }
 
 const MOST_TURNS: u64 = 1_000_000_000;
 
-fn has_colon(name: &[u8]) -> bool
-    ensures { result ≡ list_any (λ b. nat_eq b 58) name.now }
+fn is_part(name: &str) -> bool
+    ensures { result ≡ is_part name.now }
 {
-    name.iter().any(|b| *b == b':')
+    name.len() >= 1 && name.len() <= 200
 }
 
-fn is_disk_name(name: &str) -> bool
-    ensures { result ≡ is_disk name.now }
+// A word that names a disk alone.
+fn read_disk(word: &str) -> Option<Named<'_>>
+    ensures named { option_map named_of result ≡ named_parts word.now None }
+    ensures short { IfSome result (λ named. length named.word.now ≤ 401) }
 {
-    let length = name.len();
-    length >= 1 && length <= 200 && !has_colon(name.as_bytes())
+    if is_part(word) {
+        Some(Named {
+            word,
+            disk: word,
+            board: None,
+        })
+    } else {
+        None
+    }
+}
+
+// A word that names a disk and a board.
+fn read_both<'a>(word: &'a str, disk: &'a str, board: &'a str) -> Option<Named<'a>>
+    requires { length word.now ≤ length disk.now + length board.now + 1 }
+    ensures named { option_map named_of result ≡ named_parts word.now (Some (disk.now, board.now)) }
+    ensures short { IfSome result (λ named. length named.word.now ≤ 401) }
+{
+    if is_part(disk) && is_part(board) && disk != board {
+        Some(Named {
+            word,
+            disk,
+            board: Some(board),
+        })
+    } else {
+        None
+    }
+}
+
+// The disk and the board that a word names.
+fn read_volume(word: &str) -> Option<Named<'_>>
+    ensures named { option_map named_of result ≡ named_by word.now }
+    ensures short { IfSome result (λ named. length named.word.now ≤ 401) }
+{
+    match word.rfind(':') {
+        None => read_disk(word),
+        Some(at) => read_both(word, &word[..at], &word[at + 1..]),
+    }
 }
 
 // A number of digits alone, none above the most turns.
@@ -69,34 +127,68 @@ fn after_workers(words: &[String]) -> &[String]
     }
 }
 
-// The turns that the last words name.
-fn turns_named(words: &[String]) -> Option<u64>
-    ensures turns { result ≡ turns_in (map string_bytes words.now) }
-    ensures few { IfSome result (λ n. n ≤ 1000000000) }
+// The turns that the next words name, and the words after them.
+fn turns_named(words: &[String]) -> Option<(u64, &[String])>
+    ensures turns { MatchOption result (turns_in (map string_bytes words.now) ≡ None) (λ found. turns_in (map string_bytes words.now) ≡ Some (found.0, map string_bytes found.1.now)) }
+    ensures few { IfSome result (λ found. found.0 ≤ 1000000000) }
 {
     match words {
-        [] => Some(1_000_000),
-        [option, value] if option.as_str() == "--turns" => turns(value.as_bytes()),
+        [option, value, rest @ ..] if option.as_str() == "--turns" => {
+            let turns = turns(value.as_bytes())?;
+            Some((turns, rest))
+        }
+        _ => Some((1_000_000, words)),
+    }
+}
+
+// Whether the next word is this flag, and the words after it.
+fn after_flag<'a>(words: &'a [String], flag: &str) -> (bool, &'a [String])
+    ensures has { result.0 ≡ has_flag flag.now (map string_bytes words.now) }
+    ensures rest { map string_bytes result.1.now ≡ without_flag flag.now (map string_bytes words.now) }
+{
+    match words {
+        [word, rest @ ..] if word.as_str() == flag => (true, rest),
+        _ => (false, words),
+    }
+}
+
+// These options, where no word is left.
+fn last_options(turns: u64, down: bool, accept_loss: bool, rest: &[String]) -> Option<Options>
+    ensures options { option_map options_read result ≡ options_of turns down accept_loss (map string_bytes rest.now) }
+    ensures turns { IfSome result (λ options. options.turns ≡ turns) }
+{
+    match rest {
+        [] => Some(Options {
+            turns,
+            down,
+            accept_loss,
+        }),
         _ => None,
     }
 }
 
-/// Reads the words: a disk of 1 to 200 bytes without a colon, and then, if wanted, `--workers 1` and `--turns T`.
-pub fn read_words(words: &[String]) -> Option<Asked<'_>>
-    ensures short { IfSome result (λ asked. length asked.disk.now ≤ 200) }
-    ensures few { IfSome result (λ asked. asked.turns ≤ 1000000000) }
-    ensures asked { MatchOption result (asked_by (map string_bytes words.now) ≡ None)
-        (λ asked. asked_by (map string_bytes words.now) ≡ Some (record { disk = asked.disk.now; turns = asked.turns })) }
+// What the options say.
+fn read_options(words: &[String]) -> Option<Options>
+    ensures options { option_map options_read result ≡ options_in (map string_bytes words.now) }
+    ensures few { IfSome result (λ options. options.turns ≤ 1000000000) }
 {
-    let [disk, rest @ ..] = words else {
+    let (turns, rest) = turns_named(after_workers(words))?;
+    let (down, rest) = after_flag(rest, "--down");
+    let (accept_loss, rest) = after_flag(rest, "--accept-loss");
+    last_options(turns, down, accept_loss, rest)
+}
+
+/// Reads the words: a disk of 1 to 200 bytes, or a disk and another board, cut at the last colon; and then, each if wanted and in this order, `--workers 1`,
+/// `--turns T`, `--down` and `--accept-loss`.
+pub fn read_words(words: &[String]) -> Option<Asked<'_>>
+    ensures asked { option_map asked_of result ≡ asked_by (map string_bytes words.now) }
+    ensures short { IfSome result (λ asked. length asked.volume.word.now ≤ 401) }
+    ensures few { IfSome result (λ asked. asked.options.turns ≤ 1000000000) }
+{
+    let [word, rest @ ..] = words else {
         return None;
     };
-    if !is_disk_name(disk.as_str()) {
-        return None;
-    }
-    let turns = turns_named(after_workers(rest))?;
-    Some(Asked {
-        disk: disk.as_str(),
-        turns,
-    })
+    let volume = read_volume(word.as_str())?;
+    let options = read_options(rest)?;
+    Some(Asked { volume, options })
 }

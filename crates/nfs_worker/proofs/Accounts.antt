@@ -44,13 +44,13 @@ stands_right files [] ys found p = p
 stands_right files (x ∷ xs) ys found p =
     inr (stands_right (after files x.events) xs ys found (subst (λ (f : Files). StandsFor f ys found) (after-append files x.events (history xs)) p))
 
-recovered_left : (files : Files) (xs ys : List Hold) (image : Image) → IsRecovered files xs image → IsRecovered files (xs ++ ys) image
+pub recovered_left : (files : Files) (xs ys : List Hold) (image : Image) → IsRecovered files xs image → IsRecovered files (xs ++ ys) image
 recovered_left files xs ys image p = record { weak = p.weak; stands = stands_left files xs ys (view image) p.stands }
 
 recovered_right : (files then : Files) (xs ys : List Hold) (image : Image) → then ≡ after files (history xs) → IsRecovered then ys image → IsRecovered files (xs ++ ys) image
 recovered_right files then xs ys image is p = record { weak = p.weak; stands = stands_right files xs ys (view image) (subst (λ (f : Files). StandsFor f ys (view image)) is p.stands) }
 
-marks_later : (a b now : ℕ) (ys : List Hold) → a ≤ b → MarksWithin b now ys → MarksWithin a now ys
+pub marks_later : (a b now : ℕ) (ys : List Hold) → a ≤ b → MarksWithin b now ys → MarksWithin a now ys
 marks_later a b now [] le p = omega (arith, le, p)
 marks_later a b now (y ∷ ys) le p = (omega (arith, le, p.0), p.1)
 
@@ -157,3 +157,11 @@ module _ {S : Type 0} (s : Ghosts S) (clocked : IsClocked s.tells s.image s.mome
         p.marked (p.lasts told strong) (q.lasts told g.strong);
     opens = λ t le opens. q.opens t (omega (arith, le, p.crash.later)) (p.opens t le opens);
   }
+
+  -- device calls before a run of holds
+  pub grew_before : {a b c : S} (holds : List Hold) → KeepsImage s a b → Grew s b c holds → Grew s a c holds
+  grew_before holds keeps grows = grew_both [] holds (grew_idle keeps) grows
+
+  -- and after it
+  pub grew_after : {a b c : S} (holds : List Hold) → Grew s a b holds → KeepsImage s b c → Grew s a c holds
+  grew_after {a} {c = c} holds grows keeps = subst (λ (hs : List Hold). Grew s a c hs) (append-nil holds) (grew_both holds [] grows (grew_idle keeps))

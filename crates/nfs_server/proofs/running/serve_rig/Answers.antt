@@ -1,45 +1,83 @@
-use Rattle.std.proofs.Common.{arith, ◌<◌, refl, sym, ap, ◌∙◌, subst}
-use Rattle.stable.specs.Counts.{Rose}
-use Rattle.rig.specs.Links.{gains}
-use Rattle.nfs_server.specs.Account.{Grew}
-use Rattle.nfs_server.specs.Disks.{disk_of, disks_since, rig_of}
-use Rattle.nfs_server.specs.Run.{FoundAs}
-use Rattle.nfs_server.proofs.Disks.{grew_through}
-use Rattle.nfs_server.proofs.Loans.{loan_within}
-use Rattle.nfs_server.proofs.Saying.{said_before}
+use Rattle.std.proofs.Common.{arith, ◌≡◌, ◌≤◌, ◌^◌, ◌∙◌, ℕ, [], ◌∷◌, List, refl, sym, ap, subst}
+use Rattle.stable.specs.Counts.{RoseBy, Rose}
+use Rattle.nvram_map.specs.Overlay.{NoEntry}
+use Rattle.presto_unit.specs.Parts.{rig_of}
+use Rattle.nfs_server.specs.Asking.{options_read}
+use Rattle.nfs_server.specs.Course.{NoUnit}
+use Rattle.nfs_server.specs.Run.{ServedRig}
+use Rattle.nfs_server.proofs.Devices.{device_failed}
+use Rattle.nfs_server.proofs.Founds.{found_by}
+use Rattle.nfs_server.proofs.Loans.{loan_none, unit_not}
+use Rattle.nfs_server.proofs.Overlays.{kept_refused, kept_opened}
+use Rattle.nfs_server.proofs.Sayings.{told_as}
+use Rattle.nfs_server.proofs.Stops.{each_pair}
 use Rattle.nfs_server.proofs.running.serve_rig.Goals as goal
 
-pub returns-clause-left : goal.returns-clause-left
-returns-clause-left g c = c.give_back_rig.ensures.back.left ∙ c.serve_volume-status.ensures.rigs.left
+pub returns-in-Err : goal.returns-in-Err
+returns-in-Err g c =
+    let r = g.R.Rig in
+    let refused = c.in-Err.ensures.refused in
+    let refusal = c.unit_refusal.ensures in
+    let told = told_as g.H.Host g.H.Say (ap (λ (line : List ℕ). line ∷ []) refusal.line_is) c.refuse.ensures.told in
+    let status = c.refuse.ensures.status ∙ refusal.status_is in
+    let last = told.same.faults in
+    record {
+      served = record {
+        course = NoUnit c.in-Err.fault;
+        holds = [];
+        posts = [];
+        backs = [];
+        rigs = told.same.rigs;
+        loan = loan_none told.same.posts.left told.same.posts.back;
+        kept = kept_refused r g.met.R.Rig.clocked c.args.options.accept_loss c.in-Err.fault refused;
+        found = refused.reason;
+        workers = tt;
+        shared = refl;
+        polled = tt;
+        ends = tt;
+        had_rig = refl;
+        status = status;
+        said = told.said;
+        device = λ is. device_failed r (options_read c.args.options) c.args.rig c.in-Err.rig (NoUnit c.in-Err.fault) refused.reason (sym status ∙ is);
+        host = λ is. absurd (unit_not c.in-Err.fault 66 (omega arith) (sym status ∙ is));
+        later = omega (arith, last);
+      };
+    }
 
-pub returns-clause-served : goal.returns-clause-served
-returns-clause-served g c =
-    let R = g.H.R.Rig in
-    let s = c.serve_volume-status.ensures.served in
-    let back = c.give_back_rig.ensures in
-    let out : 0 < g.H.Host.rigs_out c.serve_volume-status.new.host = let given = c.requires.out in let same = c.serve_volume-status.ensures.rigs.out in omega (arith, given, same) in
-    let same = back.faults in
-    let before = s.later in (
-      c.into_rig.result,
-      back.back.back out ∙ ap (λ told. gains told (0, c.into_rig.result)) c.serve_volume-status.ensures.rigs.back,
-      record {
-        course = s.course;
-        holds = s.holds;
-        posts = s.posts;
-        backs = s.backs;
-        loan = loan_within g.H.Host.posts_left g.H.Host.posts_back c.args.host.now c.args.host.now c.serve_volume-status.new.host c.give_back_rig.new.self s.posts s.backs refl refl s.loan back.posts.left back.posts.back;
-        grows = subst (λ r. Grew R.tells (disk_of R.contents) R.faults R.moment (disks_since R.left_since) c.args.rig r s.holds) (sym c.into_rig.ensures)
-            (subst (λ r. Grew R.tells (disk_of R.contents) R.faults R.moment (disks_since R.left_since) r (rig_of c.serve_volume-status.result.1) s.holds) c.new.ensures.rig
-            (grew_through rig_of c.new.result c.serve_volume-status.result.1 s.holds s.grows));
-        workers = s.workers;
-        shared = s.shared;
-        ends = s.ends;
-        opened = λ tells. subst (λ r. FoundAs s.course (disk_of R.contents r)) c.new.ensures.rig (s.opened tells);
-        had_rig = s.had_rig;
-        status = s.status;
-        said = said_before g.H.Say.lines g.H.Say.say_faults c.args.host.now c.serve_volume-status.new.host c.give_back_rig.new.self _ s.said back.lines;
-        device = λ is. subst (λ r. Rose (R.faults c.args.rig) (R.faults r)) (sym c.into_rig.ensures) (subst (λ r. Rose (R.faults r) (R.faults (rig_of c.serve_volume-status.result.1))) c.new.ensures.rig (s.device is));
-        host = λ is. let rose : Rose (g.H.Host.host_faults c.args.host.now) (g.H.Host.host_faults c.serve_volume-status.new.host) = s.host is in omega (arith, rose, same);
-        later = omega (arith, same, before);
-      },
-    )
+pub returns-in-Ok : goal.returns-in-Ok
+returns-in-Ok g c =
+    let r = g.R.Rig in
+    let law = g.met.R.Rig in
+    let opened = c.in-Ok.ensures.opened in
+    let volume = c.serve_volume-status.ensures.served in
+    let run = volume.served in
+    let unit' = c.serve_volume-status.result.1 in
+    let is : c.into_rig-rig.result ≡ rig_of unit' = c.into_rig-rig.ensures.rig in
+    let here : (r.sizes c.into_rig-rig.result).sectors ≤ 2 ^ 32 = omega (arith, c.sectors-sectors.ensures) in
+    let few : (r.sizes (rig_of unit')).sectors ≤ 2 ^ 32 = subst (λ rig. (r.sizes rig).sectors ≤ 2 ^ 32) is here in
+    let kept = kept_opened r law.clocked law.shape law.board c.args.options.accept_loss _ opened unit' few run.holds run.grows in
+    let found = found_by r law.clocked (options_read c.args.options) _ opened _ refl refl unit' (λ tells down. subst (λ rig. NoEntry (r.contents rig)) is (c.into_rig-rig.ensures.bare tells down)) volume.course volume.opens in
+    let served : ServedRig g.H.Host g.H.Say r g.H.L.Link g.H.C.Clock (options_read c.args.options) c.args.host.now c.serve_volume-status.new.host c.args.rig (rig_of unit') c.serve_volume-status.result.0 = record {
+      course = volume.course;
+      holds = run.holds;
+      posts = run.posts;
+      backs = run.backs;
+      rigs = run.rigs;
+      loan = run.loan;
+      kept = kept;
+      found = found;
+      workers = run.workers;
+      shared = run.shared;
+      polled = each_pair (λ post post' rose.
+          let none = opened.starts.tally.polls in
+          let polled = unit'.polled in
+          omega (arith, rose, none, polled)) run.posts run.backs run.polled;
+      ends = run.ends;
+      had_rig = run.had_rig;
+      status = run.status;
+      said = run.said;
+      device = λ is. device_failed r (options_read c.args.options) c.args.rig (rig_of unit') volume.course found (sym run.status ∙ is);
+      host = run.host;
+      later = run.later;
+    } in
+    record { served = subst (λ rig. ServedRig g.H.Host g.H.Say r g.H.L.Link g.H.C.Clock (options_read c.args.options) c.args.host.now c.serve_volume-status.new.host c.args.rig rig c.serve_volume-status.result.0) (sym is) served }

@@ -1,56 +1,77 @@
-use Rattle.std.proofs.Common.{arith, [], refl, sym, ◌∙◌}
-use Rattle.volume.specs.Mounted.{store_of, name_of, root_of}
-use Rattle.nfs_server.specs.Run.{NoVolume}
-use Rattle.nfs_server.proofs.Accounts.{grew_idle, grew_both}
-use Rattle.nfs_server.proofs.Loans.{loan_none, opening_failed, opening_not}
-use Rattle.nfs_server.proofs.Opened.{opens_not, found_named}
+use Rattle.std.proofs.Common.{arith, ◌≡◌, ◌∙◌, ℕ, [], ◌∷◌, List, refl, sym, ap, subst}
+use Rattle.stable.specs.Counts.{RoseBy, Rose}
+use Rattle.stable.specs.declared.snapshot.Snapshot.{Snapshot}
+use Rattle.nfs_worker.proofs.Accounts.{grew_idle, grew_before}
+use Rattle.nfs_server.specs.Course.{NoVolume}
+use Rattle.nfs_server.specs.Run.{changes_in}
+use Rattle.nfs_server.proofs.Loans.{loan_none, loan_within, volume_not}
+use Rattle.nfs_server.proofs.Sayings.{loans_both, said_later, told_as}
+use Rattle.nfs_server.proofs.Stops.{looked_keeps, opens_as, each_pair}
 use Rattle.nfs_server.proofs.running.serve_volume.Goals as goal
+use Rattle.volume.specs.Mounted.{store_of}
 
-pub returns-in-Err-clause-served : goal.returns-in-Err-clause-served
-returns-in-Err-clause-served g c =
-    let S = g.S.Stable in
-    let same = c.give_up.ensures.only.faults in
-    let looked = c.in-Err.ensures.came_back in
+pub returns-in-Err : goal.returns-in-Err
+returns-in-Err g c =
+    let s = g.S.Stable in
+    let asked = c.now-second.ensures in
+    let refused = c.volume_refusal.ensures in
+    let told = told_as g.H.Host g.H.Say (ap (λ (line : List ℕ). line ∷ []) refused.line_is) c.refuse.ensures.told in
+    let status = c.refuse.ensures.status ∙ refused.status_is in
+    let first = asked.faults in
+    let last = told.same.faults in
     record {
-      course = NoVolume c.in-Err.fault;
-      holds = [];
-      posts = [];
-      backs = [];
-      loan = loan_none g.H.Host.posts_left g.H.Host.posts_back c.args.host.now c.give_up.new.host c.give_up.ensures.only.posts.left c.give_up.ensures.only.posts.back;
-      grows = grew_idle g.met.S.Stable.clocked c.args.store c.in-Err.store (λ told. looked.image) looked.later looked.crash;
-      workers = tt;
-      shared = refl;
-      ends = tt;
-      opened = λ tells. opens_not (S.image c.args.store) c.in-Err.fault (c.in-Err.ensures.missing tells);
-      had_rig = refl;
-      status = c.give_up.ensures.status;
-      said = c.give_up.ensures.said;
-      device = λ is. c.in-Err.ensures.failed (opening_failed c.in-Err.fault (sym c.give_up.ensures.status ∙ is));
-      host = λ is. absurd (opening_not c.in-Err.fault 66 (λ e. omega (arith, e)) (λ e. omega (arith, e)) (sym c.give_up.ensures.status ∙ is));
-      later = omega (arith, same);
+      served = record {
+        course = NoVolume c.in-Err.fault;
+        served = record {
+          holds = [];
+          posts = [];
+          backs = [];
+          rigs = loans_both asked.rigs told.same.rigs;
+          loan = loan_none (told.same.posts.left ∙ asked.posts.left) (told.same.posts.back ∙ asked.posts.back);
+          grows = grew_idle s g.met.S.Stable.clocked (looked_keeps s c.in-Err.ensures.came_back);
+          workers = tt;
+          shared = refl;
+          polled = tt;
+          ends = tt;
+          had_rig = refl;
+          status = status;
+          said = said_later g.H.Say asked.lines told.said;
+          host = λ is. absurd (volume_not c.in-Err.fault 66 (λ e. omega (arith, e)) (λ e. omega (arith, e)) (sym status ∙ is));
+          later = omega (arith, first, last);
+        };
+        opens = (c.in-Err.ensures.missing, c.in-Err.ensures.failed);
+      };
     }
 
-pub returns-in-Ok-clause-served : goal.returns-in-Ok-clause-served
-returns-in-Ok-clause-served g c =
-    let S = g.S.Stable in
+pub returns-in-Ok : goal.returns-in-Ok
+returns-in-Ok g c =
+    let s = g.S.Stable in
+    let asked = c.now-second.ensures in
     let looked = c.in-Ok.ensures.looked in
-    let s = c.serve_open.ensures.served in
+    let open_run = c.serve_open.ensures.served in
+    let run = open_run.served in
+    let first = asked.faults in
+    let then = run.later in
     record {
-      course = s.course;
-      holds = s.holds;
-      posts = s.posts;
-      backs = s.backs;
-      loan = s.loan;
-      grows = grew_both g.met.S.Stable.clocked c.args.store (store_of c.in-Ok.volume) c.serve_open.result.1 [] s.holds
-          (grew_idle g.met.S.Stable.clocked c.args.store (store_of c.in-Ok.volume) (λ told. looked.image) looked.later looked.crash) s.grows;
-      workers = s.workers;
-      shared = s.shared;
-      ends = s.ends;
-      opened = λ tells. found_named (S.image c.args.store) (name_of c.in-Ok.volume) (root_of c.in-Ok.volume) s.course s.named (c.in-Ok.ensures.found tells);
-      had_rig = s.had_rig;
-      status = s.status;
-      said = s.said;
-      device = λ is. absurd (s.device is);
-      host = s.host;
-      later = s.later;
+      served = record {
+        course = open_run.course;
+        served = record {
+          holds = run.holds;
+          posts = run.posts;
+          backs = run.backs;
+          rigs = loans_both asked.rigs run.rigs;
+          loan = loan_within asked.posts.left asked.posts.back run.loan refl refl;
+          grows = grew_before s g.met.S.Stable.clocked run.holds (looked_keeps s looked) run.grows;
+          workers = run.workers;
+          shared = run.shared;
+          polled = each_pair (λ post post' rose. subst (λ (n : ℕ). RoseBy (changes_in g.H.C.Clock post post') n (s.snapshot_of c.serve_open.result.1).polls) (ap (λ (x : Snapshot). x.polls) looked.snapshot) rose) run.posts run.backs run.polled;
+          ends = run.ends;
+          had_rig = run.had_rig;
+          status = run.status;
+          said = said_later g.H.Say asked.lines run.said;
+          host = λ is. let rose : Rose (g.H.Host.host_faults c.now-second.new.self) (g.H.Host.host_faults c.serve_open.new.host) = run.host is in omega (arith, rose, first);
+          later = omega (arith, first, then);
+        };
+        opens = opens_as s c.args.options.down c.args.recovery c.serve_open.result.1 open_run.course looked (λ told. (c.in-Ok.ensures.found told).sizes) (λ told. (c.in-Ok.ensures.found told).name_is) open_run.runs;
+      };
     }

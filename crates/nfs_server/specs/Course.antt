@@ -1,0 +1,150 @@
+-- How far a run comes, and what it says and answers (docs/CALLS.md, "Lines and statuses").
+use Rattle.std.specs.Prelude.{◌≡◌, ℕ, ◌-◌, ◌≤◌, Bool, true, false, if◌then◌else◌, zero, suc, List, [], ◌∷◌, ◌++◌, length, codes}
+use Rattle.stable.specs.Counts.{Rose}
+use Rattle.stable.specs.declared.battery.Battery.{Battery}
+use Rattle.stable.specs.declared.battery.Battery.TheVariants.{Good, Low}
+use Rattle.stable.specs.declared.snapshot.Snapshot.{Snapshot}
+use Rattle.stable.specs.declared.state.State.{State}
+use Rattle.stable.specs.declared.state.State.TheVariants.{Up, Down, Error}
+use Rattle.rig.specs.declared.host.HostFault.{HostFault}
+use Rattle.presto_recover.specs.declared.fault.OpenFault.{OpenFault as UnitFault}
+use Rattle.volume.specs.declared.fault.OpenFault.{OpenFault as VolumeFault}
+use Rattle.nfs_worker.specs.Tending.{IsError}
+use Rattle.nfs_worker.specs.Turns.{Did, datagrams}
+use Rattle.nfs_worker.specs.declared.turning.Ended.{Ended}
+use Rattle.nfs_worker.specs.declared.turning.Ended.TheVariants as ended
+use Rattle.nfs_server.specs.Lines.{usage_line, opened_line, loss_line, stopped_line, numbers_line, no_volume_line, no_port_line, device_line}
+use Rattle.nfs_server.specs.Refusals.{host_status, host_line, unit_status, unit_line, volume_status, volume_line}
+
+-- How a volume was started: its name; how many entries of its board were recovered, and how many are left; whether the board's loss was accepted; its state
+-- after that, what the battery was read as then, and its state after Up.
+pub record Start : Type 0 where
+  pub name : List ℕ
+  pub recovered : ℕ
+  pub left : ℕ
+  pub lost : Bool
+  pub opened : State
+  pub battery : Battery
+  pub state : State
+
+-- How it was stopped: its state after Down, and how many entries are left dirty.
+pub record Stop : Type 0 where
+  pub state : State
+  pub dirty : ℕ
+
+-- How far a run came: the words aren't of the grammar; the host gave no rig; disk and board weren't opened; there is no volume; the host gave no post; a worker ran.
+pub data Course : Type 0 where
+  Usage : Course
+  NoRig : List ℕ → HostFault → Course
+  NoUnit : UnitFault → Course
+  NoVolume : VolumeFault → Course
+  NoPost : Start → HostFault → Stop → Course
+  Ran : Start → Ended → Did → Stop → Course
+
+-- how a snapshot shows a volume that was stopped
+abbrev pub stop_of : Snapshot → Stop
+stop_of snapshot = record { state = snapshot.state; dirty = snapshot.dirty }
+
+-- ---- starting and stopping
+
+-- the state after Up, where it isn't to stay DOWN; the battery is the one that was read
+abbrev pub state_after : Bool → State → Battery → State
+state_after true opened battery = opened
+state_after false Up battery = Up
+state_after false Down Good = Up
+state_after false Down Low = Down
+state_after false (Error why) battery = Error why
+
+-- A volume was started: it was commanded Up, or nothing was done.
+pub record IsStarted (down : Bool) (old new : Snapshot) : Type 0 where
+  pub state : new.state ≡ state_after down old.state new.battery
+  pub dirty : new.dirty ≡ old.dirty
+  pub polls : new.polls ≡ old.polls
+
+-- A volume was stopped: it is DOWN exactly where nothing is dirty, and something is dirty only where a device failed.
+pub record IsStopped (before now : ℕ) (old new : Snapshot) : Type 0 where
+  pub down : new.dirty ≡ 0 → new.state ≡ Down
+  pub error : 1 ≤ new.dirty → IsError new.state
+  pub failed : 1 ≤ new.dirty → Rose before now
+  pub polls : new.polls ≡ old.polls
+
+-- what is told of a volume that was stopped, since the count of faults was `before`
+pub record StopsAs (before now : ℕ) (snapshot : Snapshot) (stop : Stop) : Type 0 where
+  pub state : stop.state ≡ snapshot.state
+  pub dirty : stop.dirty ≡ snapshot.dirty
+  pub down : stop.dirty ≡ 0 → stop.state ≡ Down
+  pub error : 1 ≤ stop.dirty → IsError stop.state
+  pub failed : 1 ≤ stop.dirty → Rose before now
+
+-- ---- statuses
+
+-- what the end of the worker gives, where so many entries are left dirty
+abbrev pub end_status : Ended → ℕ
+end_status ended.Spent = 72
+end_status ended.Closed = 0
+end_status ended.Halted = 0
+
+abbrev pub closing_status : Ended → ℕ → ℕ
+closing_status way zero = end_status way
+closing_status way (suc n) = 74
+
+abbrev pub status_of : Course → ℕ
+status_of Usage = 64
+status_of (NoRig word fault) = host_status fault
+status_of (NoUnit fault) = unit_status fault
+status_of (NoVolume fault) = volume_status fault
+status_of (NoPost start fault stop) = host_status fault
+status_of (Ran start way did stop) = closing_status way stop.dirty
+
+-- ---- lines
+
+-- an accepted loss, and how the volume was started
+abbrev pub loss_lines : Bool → List (List ℕ)
+loss_lines lost = if lost then loss_line ∷ [] else []
+
+abbrev pub opening_lines : List ℕ → ℕ → Bool → State → List (List ℕ)
+opening_lines name recovered lost state = loss_lines lost ++ opened_line name state recovered ∷ []
+
+abbrev pub start_lines : Start → List (List ℕ)
+start_lines start = opening_lines start.name start.recovered start.lost start.state
+
+-- what the end of the worker says, where so many entries are left dirty
+abbrev pub end_lines : Ended → List (List ℕ)
+end_lines ended.Spent = codes "turns spent" ∷ []
+end_lines ended.Closed = []
+end_lines ended.Halted = []
+
+abbrev pub last_lines : Ended → ℕ → List (List ℕ)
+last_lines way zero = end_lines way
+last_lines way (suc n) = device_line ∷ []
+
+abbrev pub closing_lines : Stop → Ended → ℕ → ℕ → List (List ℕ)
+closing_lines stop way received answered = stopped_line stop.state stop.dirty ∷ numbers_line received answered (received - answered) ∷ last_lines way stop.dirty
+
+abbrev pub lines_of : Course → List (List ℕ)
+lines_of Usage = usage_line ∷ []
+lines_of (NoRig word fault) = host_line (no_volume_line word) fault ∷ []
+lines_of (NoUnit fault) = unit_line fault ∷ []
+lines_of (NoVolume fault) = volume_line fault ∷ []
+lines_of (NoPost start fault stop) = start_lines start ++ host_line no_port_line fault ∷ []
+lines_of (Ran start way did stop) = start_lines start ++ closing_lines stop way (datagrams did.heard) (length did.replies)
+
+-- ---- what came of it
+
+-- what the workers did, if one ran
+abbrev pub dids_of : Course → List Did
+dids_of (Ran start way did stop) = did ∷ []
+dids_of Usage = []
+dids_of (NoRig word fault) = []
+dids_of (NoUnit fault) = []
+dids_of (NoVolume fault) = []
+dids_of (NoPost start fault stop) = []
+
+-- how many rigs the host gave
+abbrev pub rigs_in : Course → ℕ
+rigs_in Usage = 0
+rigs_in (NoRig word fault) = 0
+rigs_in (NoUnit fault) = 1
+rigs_in (NoVolume fault) = 1
+rigs_in (NoPost start fault stop) = 1
+rigs_in (Ran start way did stop) = 1

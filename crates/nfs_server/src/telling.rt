@@ -1,0 +1,77 @@
+//! What a run says to its host.
+ghost use Rattle.std.specs.Prelude.{◌≡◌, ◌∷◌, []};
+ghost use Rattle.nfs_server.specs.Course.{closing_lines, closing_status, last_lines, loss_lines, opening_lines, stop_of};
+ghost use Rattle.nfs_server.specs.Told.{Told};
+
+use crate::lines::{numbers_line, opened_line, stopped_line};
+use crate::refusing::Refusal;
+use crate::starting::Recovery;
+use nfs_worker::{Ended, Numbers};
+use rig::Host;
+use stable::{Snapshot, State};
+
+/// What is said where the words aren't of the grammar.
+pub const USAGE: &str =
+    "usage: nfsd VOLUME.. [--workers N] [--turns T] [--port P] [--down] [--accept-loss]";
+
+/// Says a line. A failure is passed over.
+pub fn tell<H: Host>(host: &mut H, line: &str)
+    ensures { Told H.Host.own H.Say host.old host.new (line.now ∷ []) }
+{
+    let _said = host.say(line);
+}
+
+/// Says why a run is refused, and answers its status.
+pub fn refuse<H: Host>(host: &mut H, refusal: Refusal) -> u8
+    ensures told { Told H.Host.own H.Say host.old host.new (refusal.line.bytes ∷ []) }
+    ensures status { result ≡ refusal.status }
+{
+    tell(host, refusal.line.as_str());
+    refusal.status
+}
+
+// Says that the loss of a board was accepted, if one was.
+fn tell_loss<H: Host>(host: &mut H, lost: bool)
+    ensures { Told H.Host.own H.Say host.old host.new (loss_lines lost) }
+{
+    if lost {
+        tell(host, "volume 0: lost board accepted");
+    }
+}
+
+/// Says that a volume was started: the loss of its board, if one was accepted, and then its name, its state, and how many entries were recovered.
+pub fn tell_start<H: Host>(host: &mut H, name: &[u8; 6], state: State, recovery: Recovery)
+    ensures { Told H.Host.own H.Say host.old host.new (opening_lines name.now recovery.recovered recovery.lost state) }
+{
+    tell_loss(host, recovery.lost);
+    tell(host, opened_line(name, state, recovery.recovered).as_str());
+}
+
+// Says the last line, by the worker's end where nothing is dirty, and answers the status.
+fn tell_end<H: Host>(host: &mut H, dirty: u32, ended: Ended) -> u8
+    ensures told { Told H.Host.own H.Say host.old host.new (last_lines ended dirty) }
+    ensures status { result ≡ closing_status ended dirty }
+{
+    if dirty > 0 {
+        tell(host, "device failed on volume 0");
+        return 74;
+    }
+    match ended {
+        Ended::Closed => 0,
+        Ended::Halted => 0,
+        Ended::Spent => {
+            tell(host, "turns spent");
+            72
+        }
+    }
+}
+
+/// Says the closing lines of a volume that was stopped, and answers the status.
+pub fn close<H: Host>(host: &mut H, stopped: Snapshot, ended: Ended, numbers: Numbers) -> u8
+    ensures told { Told H.Host.own H.Say host.old host.new (closing_lines (stop_of stopped) ended numbers.received numbers.answered) }
+    ensures status { result ≡ closing_status ended stopped.dirty }
+{
+    tell(host, stopped_line(stopped.state, stopped.dirty).as_str());
+    tell(host, numbers_line(numbers).as_str());
+    tell_end(host, stopped.dirty, ended)
+}
