@@ -37,7 +37,6 @@ starts_error (Some why) n none some = tt
 
 module _ {R : Type 0} (r : Ghosts R) (clocked : IsClocked r.tells r.contents r.moment r.left_since) (options : Options) {rig : R} (opened : Opened R r) (is : IsOpened r options.accept_loss rig opened)
     (recovery : Recovery) (recovered : recovery.recovered ≡ opened.recovered) (lost : recovery.lost ≡ opened.lost) (unit' : Presto R r) (bare : r.tells → state_of unit' ≡ Down → NoEntry (r.contents (rig_of unit'))) where
-
   same : r.tells → overlay_of r (rig_of opened.presto) ≡ overlay_of r rig
   same = same_overlay r clocked is.sizes is.crash
 

@@ -114,8 +114,8 @@ module _ {R : Type 0} (r : Ghosts R) (clocked : IsClocked r.tells r.contents r.m
               let tells = clocked.told v (r.moment rig) left.0 left.1 in
               ⊎_elim
               (λ was.
-                  let old : image ≡ overlay_of r rig = was.2.shows.2 ∙ (is.crash.each was.0 was.1).image was.2.shows.0 was.2.shows.1 in
-                  recovered_left (view (overlay_of r rig)) [] holds image (subst (λ (i : Image). IsRecovered (view (overlay_of r rig)) [] i) (sym old) (record { weak = strong.weak; stands = refl })))
+              let old : image ≡ overlay_of r rig = was.2.shows.2 ∙ (is.crash.each was.0 was.1).image was.2.shows.0 was.2.shows.1 in
+              recovered_left (view (overlay_of r rig)) [] holds image (subst (λ (i : Image). IsRecovered (view (overlay_of r rig)) [] i) (sym old) (record { weak = strong.weak; stands = refl })))
               (λ now. subst (λ (i : Image). IsRecovered (view i) holds image) (same tells) (grew.crash.each image now (subst (λ (i : Image). IsStrong (frame i)) (sym (same tells)) strong)))
               (grew.crash.before (r.moment rig) image begun (image_shown (told_since tells) (r.moment rig) (omega arith) image left));
           lasts = λ tells strong. lasts_shown (told_since tells) (r.moment rig) (r.moment v) (omega arith) (view (overlay_of r rig)) holds

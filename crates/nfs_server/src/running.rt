@@ -61,11 +61,7 @@ fn serve_post<H: Host, S: Tended>(
 }
 
 // Stops the volume, since the host gave no post.
-fn refuse_post<H: Host, S: Tended>(
-    host: &mut H,
-    volume: Volume<S>,
-    fault: HostFault,
-) -> (u8, S)
+fn refuse_post<H: Host, S: Tended>(host: &mut H, volume: Volume<S>, fault: HostFault) -> (u8, S)
     ensures { RefusedPost H.Host.own H.Say S.Stable fault host.old host.new (store_of volume) result.1 result.0 }
 {
     let mut volume = volume;

@@ -19,10 +19,10 @@ const BOTH: Shape = Shape {
     ..FRESH
 };
 
-// The number of a device call, whether it leaves the newer state, and what is on the disk then. Calls 1 and 2 are the
-// opening's: the super-block and the root's inode. Calls 3 to 6 read the super-block, the inode and both sectors of data;
-// calls 7 to 9 write sectors 5, 6 and 2.
-const ROWS: [(u64, bool, Shape); 18] = [
+// The number of a device call, whether it leaves the newer state, and what is on the disk then. Calls 1 to 3 are the
+// opening's: the name in the super-block, the super-block and the root's inode. Calls 4 to 7 read the super-block, the inode
+// and both sectors of data; calls 8 to 10 write sectors 5, 6 and 2.
+const ROWS: [(u64, bool, Shape); 20] = [
     (1, false, FRESH),
     (1, true, FRESH),
     (2, false, FRESH),
@@ -36,15 +36,17 @@ const ROWS: [(u64, bool, Shape); 18] = [
     (6, false, FRESH),
     (6, true, FRESH),
     (7, false, FRESH),
-    (7, true, FIRST),
-    (8, false, FIRST),
-    (8, true, BOTH),
-    (9, false, BOTH),
-    (9, true, WRITTEN),
+    (7, true, FRESH),
+    (8, false, FRESH),
+    (8, true, FIRST),
+    (9, false, FIRST),
+    (9, true, BOTH),
+    (10, false, BOTH),
+    (10, true, WRITTEN),
 ];
 
 // The last call of the opening.
-const OPENED: u64 = 2;
+const OPENED: u64 = 3;
 
 // A rig that is served the worked WRITE, then crashes, and is served it again: both times it is as it has to be.
 fn is_kept(alloc: Global, rig: MemRig, number: u64, shape: Shape) -> Result<bool, Fail> {
@@ -107,7 +109,7 @@ fn a_cut_leaves_each_sector_old_or_new(rt: HostRuntime) -> Result<(), Fail> {
 fn what_was_answered_is_kept(rt: HostRuntime) -> Result<(), Fail> {
     let alloc = rt.alloc();
     let mut rig = rig(alloc, FRESH)?;
-    rig.stop_at(10, false);
+    rig.stop_at(11, false);
     let (status, host) = served(alloc, rig, &worked_write())?;
     assert_eq!(rt; status, 0);
     assert!(rt; has_sent(&host, &worked_reply()));

@@ -1,7 +1,9 @@
 //! A run over one rig and one post in memory.
-use crate::direct::Direct;
+use crate::serve;
 use crate::tests::test_volume::CLIENT;
-use crate::{Cells, serve};
+use nfs_worker::Cells;
+use presto_recover::open;
+use presto_unit::Presto;
 use rig::{Packet, Post};
 use rig_mem::{MemClock, MemEvent, MemHost, MemLink, MemRig, SentDatagram, StillPauser};
 use std::alloc::Global;
@@ -11,8 +13,11 @@ use volume::Volume;
 pub type Host = MemHost<MemRig, StillPauser>;
 
 /// The volume of a rig, if it can be opened.
-pub fn cells(alloc: Global, rig: MemRig) -> Option<Cells<Direct<MemRig>>> {
-    match Volume::open(alloc, Direct::new(rig)) {
+pub fn cells(alloc: Global, rig: MemRig) -> Option<Cells<Presto<MemRig>>> {
+    let Ok(opened) = open(alloc, rig, false) else {
+        return None;
+    };
+    match Volume::open(alloc, opened.presto) {
         Ok(volume) => Some(Cells { alloc, volume }),
         Err(_) => None,
     }
@@ -28,16 +33,25 @@ pub fn datagram(bytes: &[u8]) -> MemEvent {
     }
 }
 
+/// What a worker takes: these events, at these seconds, of which the last one stays.
+pub fn post_at(
+    alloc: Global,
+    events: Vec<MemEvent>,
+    seconds: &[u32],
+) -> Result<Post<MemLink, MemClock, StillPauser>, Fail> {
+    Ok(Post {
+        link: MemLink::new(alloc, events),
+        clock: MemClock::new(Vec::from_slice(alloc, seconds)?),
+        pauser: StillPauser::new(),
+    })
+}
+
 /// What a worker takes: these events, and second 2000 at each turn.
 pub fn post(
     alloc: Global,
     events: Vec<MemEvent>,
 ) -> Result<Post<MemLink, MemClock, StillPauser>, Fail> {
-    Ok(Post {
-        link: MemLink::new(alloc, events),
-        clock: MemClock::new(Vec::from_slice(alloc, &[2000])?),
-        pauser: StillPauser::new(),
-    })
+    post_at(alloc, events, &[2000])
 }
 
 /// A host that gives these rigs, and a post with these events if there are any.
@@ -68,10 +82,20 @@ pub fn served(alloc: Global, rig: MemRig, bytes: &[u8]) -> Result<(u8, Host), Fa
 
 /// A host with one rig, after it was served these events, and the status.
 pub fn served_all(alloc: Global, rig: MemRig, events: Vec<MemEvent>) -> Result<(u8, Host), Fail> {
+    served_by(alloc, rig, &["d"], events)
+}
+
+/// A host with one rig, after it was served these events by these words, and the status.
+pub fn served_by(
+    alloc: Global,
+    rig: MemRig,
+    words: &[&str],
+    events: Vec<MemEvent>,
+) -> Result<(u8, Host), Fail> {
     let mut rigs = Vec::new(alloc);
     rigs.push(rig)?;
     let mut host = host(alloc, rigs, Some(events))?;
-    let status = run(alloc, &["d"], &mut host)?;
+    let status = run(alloc, words, &mut host)?;
     Ok((status, host))
 }
 

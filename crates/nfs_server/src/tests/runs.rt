@@ -83,9 +83,13 @@ fn host_of(alloc: Global, given: Given) -> Result<Host, Fail> {
 // Words, what the host gives, the status, and the lines.
 type Row = (&'static [&'static str], Given, u8, &'static [&'static str]);
 
-const ROWS: [Row; 16] = [
+const ROWS: [Row; 23] = [
     (&[], ALL, 64, &[USAGE]),
-    (&["a:b"], ALL, 64, &[USAGE]),
+    (&["a:a"], ALL, 64, &[USAGE]),
+    (&["a:"], ALL, 64, &[USAGE]),
+    (&[":b"], ALL, 64, &[USAGE]),
+    (&["d", "--down", "--down"], ALL, 64, &[USAGE]),
+    (&["d", "--accept-loss", "--down"], ALL, 64, &[USAGE]),
     (&["d", "--turns", "0"], ALL, 64, &[USAGE]),
     (&["d", "--turns", "1000000001"], ALL, 64, &[USAGE]),
     (&["d", "--turns"], ALL, 64, &[USAGE]),
@@ -124,7 +128,20 @@ const ROWS: [Row; 16] = [
         0,
         &[OPENED, STOPPED, "received 1 answered 0 dropped 1"],
     ),
+    (
+        &["d", "--down", "--accept-loss"],
+        ALL,
+        0,
+        &[OPENED, STOPPED, "received 1 answered 0 dropped 1"],
+    ),
+    (
+        &["a:b:c"],
+        ALL,
+        0,
+        &[OPENED, STOPPED, "received 1 answered 0 dropped 1"],
+    ),
     (&["d"], NO_RIG, 66, &["cannot open d"]),
+    (&["d:b"], NO_RIG, 66, &["cannot open d:b"]),
     (&["d"], NO_POST, 66, &[OPENED, "cannot open port 2049"]),
     (&["d"], NO_MEMORY_FOR_RIG, 75, &["no memory"]),
     (&["d"], NO_MEMORY_FOR_POST, 75, &[OPENED, "no memory"]),

@@ -1,8 +1,8 @@
 //! Single turns, and what each says.
-use crate::taking::turn;
 use crate::tests::outside::{cells, datagram, post};
 use crate::tests::test_volume::{CLIENT, FRESH, WRITTEN, is_volume, rig, worked_write, write_with};
-use crate::{DropCause, ServerPass, Turn};
+use nfs_worker::taking::turn;
+use nfs_worker::{DropCause, ServerPass, Turn};
 use rig::{Address, Event, Failed, Link, Packet, Post};
 use rig_mem::{MemClock, MemEvent, StillPauser};
 use std::test::Fail;

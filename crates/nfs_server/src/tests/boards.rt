@@ -1,0 +1,379 @@
+//! Runs over a disk with a board of 64 buffers in front of it.
+ghost use Rattle.v7_layout.specs.Written.{AddressesFit};
+
+use crate::tests::outside::{cells, datagram, has_said, has_sent, post_at, rig_of, served_by};
+use crate::tests::test_volume::{
+    CALL, CREDENTIAL, FRESH, HANDLE, REPLY, WRITE, WRITTEN, disk_of, file, has_disk, is_volume,
+    rig, worked_write,
+};
+use nfs_worker::taking::turn;
+use nfs_worker::{ServerPass, Turn};
+use nvram_map::format;
+use rig::{Battery, Rig};
+use rig_mem::{MemEvent, MemRig};
+use stable::{Cause, Command, State};
+use std::alloc::Global;
+use std::test::Fail;
+use v7_layout::Inode;
+
+// A rig with this disk and a board that is formatted for `VOLA00`. Its device calls are counted from here on.
+fn with_board(alloc: Global, disk: &[[u8; 512]]) -> Result<MemRig, Fail> {
+    let mut rig = MemRig::new(alloc, 64, 64)?;
+    for (sector, bytes) in (0..64).zip(disk.iter()) {
+        if sector < rig.sectors() && rig.write(sector, bytes).is_err() {
+            return Err("the disk isn't made".into());
+        }
+    }
+    if rig.buffers() == 0 || format(&mut rig, *b"VOLA00").is_err() {
+        return Err("the board isn't formatted".into());
+    }
+    Ok(rig.crash(true, 0))
+}
+
+// The test volume with such a board.
+fn small(alloc: Global) -> Result<MemRig, Fail> {
+    with_board(alloc, rig(alloc, FRESH)?.disk())
+}
+
+// ---- a long WRITE
+
+// A file of 16 held sectors: 5 to 14 by its inode, 16 to 21 by its indirect block, sector 15.
+fn long_file(changed: u32) -> Inode
+    ensures { AddressesFit result }
+{
+    Inode {
+        size: 8192,
+        direct: [5, 6, 7, 8, 9, 10, 11, 12, 13, 14],
+        single: 15,
+        mtime: changed,
+        ctime: changed,
+        ..file(FRESH)
+    }
+}
+
+// The disk of that file after so many puts of a WRITE of 8,192 bytes `Z`: 16 of data, and then the inode's.
+fn long_disk(alloc: Global, puts: usize) -> Result<Vec<[u8; 512]>, Fail> {
+    let mut addresses = [0; 512];
+    let mut blocks = Vec::new(alloc);
+    for index in 0..6 {
+        addresses[4 * index] = 16 + index as u8;
+    }
+    for index in 0..16 {
+        if index == 10 {
+            blocks.push(addresses)?;
+        }
+        let byte = if index < puts { b'Z' } else { b'a' };
+        blocks.push([byte; 512])?;
+    }
+    let changed = if puts > 16 { 2000 } else { 1000 };
+    disk_of(alloc, 0, &long_file(changed), &blocks)
+}
+
+// Adds these words, high byte first.
+fn add_words(bytes: &mut Vec<u8>, words: &[u32]) -> Result<(), Fail> {
+    for word in words {
+        bytes.extend_from_slice(&word.to_be_bytes())?;
+    }
+    Ok(())
+}
+
+// The WRITE of 8,192 bytes `Z` at the file's begin.
+fn long_write(alloc: Global) -> Result<Vec<u8>, Fail> {
+    let mut bytes = Vec::new(alloc);
+    add_words(&mut bytes, &CALL)?;
+    add_words(&mut bytes, &[WRITE])?;
+    add_words(&mut bytes, &CREDENTIAL)?;
+    add_words(&mut bytes, &HANDLE)?;
+    add_words(&mut bytes, &[1, 0, 0, 0, 0, 0, 0, 0, 8192])?;
+    bytes.extend_from_slice(&[b'Z'; 8192])?;
+    Ok(bytes)
+}
+
+// Its reply at second 2000.
+fn long_reply(alloc: Global) -> Result<Vec<u8>, Fail> {
+    let mut bytes = Vec::new(alloc);
+    add_words(&mut bytes, &REPLY)?;
+    add_words(
+        &mut bytes,
+        &[0, 1, 0x81a4, 1, 0x64, 0x64, 8192, 0x200, 0, 16],
+    )?;
+    add_words(&mut bytes, &[0, 3, 0x3e8, 0, 0x7d0, 0, 0x7d0, 0])?;
+    Ok(bytes)
+}
+
+// The device call that is the WRITE's first store on the board. Before it the opening reads the name, the 65 words of the
+// board, the super-block and the root's inode; the WRITE reads the super-block, the inode, ten sectors of data, and the
+// indirect block with each of the other six.
+const FIRST_STORE: u64 = 93;
+
+// Serves the long WRITE over a rig that is cut at that store of the board, counted from 1.
+fn cut_at(
+    alloc: Global,
+    store: u64,
+    newer: bool,
+) -> Result<(u8, crate::tests::outside::Host), Fail> {
+    let mut rig = with_board(alloc, &long_disk(alloc, 0)?)?;
+    rig.stop_at(FIRST_STORE.saturating_add(store).saturating_sub(1), newer);
+    let mut events = Vec::new(alloc);
+    events.push(datagram(&long_write(alloc)?))?;
+    served_by(alloc, rig, &["d:b"], events)
+}
+
+// Serves nothing over what a crash left of the rig, so that its board is recovered.
+fn recovered(alloc: Global, rig: MemRig) -> Result<Option<MemRig>, Fail> {
+    let (status, host) = served_by(alloc, rig.crash(true, 0), &["d:b"], Vec::new(alloc))?;
+    if status != 0 {
+        return Ok(None);
+    }
+    Ok(rig_of(host))
+}
+
+#[test]
+fn a_long_write_stays_on_the_board(rt: HostRuntime) -> Result<(), Fail> {
+    let alloc = rt.alloc();
+    let (status, host) = cut_at(alloc, 35, false)?;
+    assert_eq!(rt; status, 74);
+    assert!(rt; has_sent(&host, &long_reply(alloc)?));
+    assert!(rt;
+        has_said(
+            &host,
+            &[
+                "volume 0 VOLA00 up recovered 0",
+                "volume 0 error dirty 17",
+                "received 1 answered 1 dropped 0",
+                "device failed on volume 0",
+            ]
+        )
+    );
+    let Some(rig) = rig_of(host) else {
+        panic!(rt; "no rig came back");
+    };
+    assert!(rt; has_disk(&rig, &long_disk(alloc, 0)?));
+    let (status, host) = served_by(alloc, rig.crash(true, 0), &["d:b"], Vec::new(alloc))?;
+    assert_eq!(rt; status, 0);
+    assert!(rt;
+        has_said(
+            &host,
+            &[
+                "volume 0 VOLA00 up recovered 17",
+                "volume 0 down dirty 0",
+                "received 0 answered 0 dropped 0",
+            ]
+        )
+    );
+    let Some(rig) = rig_of(host) else {
+        panic!(rt; "no rig came back");
+    };
+    assert!(rt; has_disk(&rig, &long_disk(alloc, 17)?));
+    Ok(())
+}
+
+#[test]
+fn a_cut_long_write_leaves_its_first_sectors(rt: HostRuntime) -> Result<(), Fail> {
+    let alloc = rt.alloc();
+    for store in 1..=34u64 {
+        for newer in [false, true] {
+            let (_, host) = cut_at(alloc, store, newer)?;
+            let Some(rig) = rig_of(host) else {
+                panic!(rt; "no rig came back");
+            };
+            // a buffer is stored, and then its word
+            let next = if store % 2 == 0 && newer { 1 } else { 0 };
+            let puts = (store.saturating_sub(1) / 2).saturating_add(next) as usize;
+            let Some(rig) = recovered(alloc, rig)? else {
+                panic!(rt; "not recovered");
+            };
+            assert!(rt;
+                has_disk(&rig, &long_disk(alloc, puts)?),
+                "store {store}, newer {newer}"
+            );
+        }
+    }
+    Ok(())
+}
+
+// ---- boards that are refused
+
+#[derive(Clone, Copy)]
+enum Board {
+    Whole,
+    Lost,
+    /// The disk has the name `VOLB00`.
+    OfAnother,
+    /// This word has this value.
+    Word(u32, u64),
+}
+
+fn rig_of_board(alloc: Global, board: Board) -> Result<MemRig, Fail> {
+    let mut rig = small(alloc)?;
+    match board {
+        Board::Whole => Ok(rig),
+        Board::Lost => Ok(rig.crash(false, 12345)),
+        Board::OfAnother => {
+            let mut bytes = [0; 512];
+            if rig.sectors() < 2 || rig.read(1, &mut bytes).is_err() {
+                return Err("no super-block".into());
+            }
+            bytes[437] = b'B';
+            if rig.write(1, &bytes).is_err() {
+                return Err("no super-block".into());
+            }
+            Ok(rig)
+        }
+        Board::Word(index, word) => {
+            if index >= rig.words() || rig.store_word(index, word).is_err() {
+                return Err("no word".into());
+            }
+            Ok(rig)
+        }
+    }
+}
+
+const STOPPED: &str = "volume 0 down dirty 0";
+
+const NOTHING: &str = "received 0 answered 0 dropped 0";
+
+// A board, the words, the status, and the lines.
+type Row = (Board, &'static [&'static str], u8, &'static [&'static str]);
+
+const ROWS: [Row; 8] = [
+    (
+        Board::Whole,
+        &["d:b"],
+        0,
+        &["volume 0 VOLA00 up recovered 0", STOPPED, NOTHING],
+    ),
+    (
+        Board::Whole,
+        &["d:b", "--down"],
+        0,
+        &["volume 0 VOLA00 down recovered 0", STOPPED, NOTHING],
+    ),
+    (
+        Board::OfAnother,
+        &["d:b"],
+        67,
+        &["board VOLA00 is not of volume VOLB00"],
+    ),
+    (
+        Board::Word(0, 0),
+        &["d:b"],
+        70,
+        &["board of volume 0 not formatted"],
+    ),
+    (
+        Board::Word(2, 5),
+        &["d:b"],
+        68,
+        &["board of volume 0: entry 0 bad"],
+    ),
+    (
+        Board::Lost,
+        &["d:b"],
+        69,
+        &["board of volume 0 lost its memory"],
+    ),
+    (
+        Board::Lost,
+        &["d:b", "--accept-loss"],
+        0,
+        &[
+            "volume 0: lost board accepted",
+            "volume 0 VOLA00 up recovered 0",
+            STOPPED,
+            NOTHING,
+        ],
+    ),
+    (
+        Board::Whole,
+        &["d:b", "--accept-loss"],
+        0,
+        &["volume 0 VOLA00 up recovered 0", STOPPED, NOTHING],
+    ),
+];
+
+#[test]
+fn a_board_of_no_volume_is_refused(rt: HostRuntime) -> Result<(), Fail> {
+    for (found, words, status, lines) in ROWS {
+        let rig = rig_of_board(rt.alloc(), found)?;
+        let twin = rig_of_board(rt.alloc(), found)?;
+        let (answered, host) = served_by(rt.alloc(), rig, words, Vec::new(rt.alloc()))?;
+        assert_eq!(rt; answered, status);
+        assert!(rt; has_said(&host, lines), "status {status}");
+        let Some(back) = rig_of(host) else {
+            panic!(rt; "no rig came back");
+        };
+        assert!(rt; has_disk(&back, twin.disk()));
+    }
+    Ok(())
+}
+
+// ---- the battery, and a device that fails
+
+#[test]
+fn a_low_battery_sends_all_to_the_disk_turn_by_turn(rt: HostRuntime) -> Result<(), Fail> {
+    let alloc = rt.alloc();
+    let Some(mut cells) = cells(alloc, small(alloc)?) else {
+        panic!(rt; "the volume wasn't opened");
+    };
+    let _answer = cells.volume.command(Command::Up);
+    let mut events = Vec::new(alloc);
+    events.push(datagram(&worked_write()))?;
+    for _ in 0..4 {
+        events.push(MemEvent::Idle)?;
+    }
+    let mut post = post_at(alloc, events, &[2000, 2001, 2001, 2001, 2002])?;
+    let mut pass = ServerPass::new(0, 2000);
+    assert!(rt; pass.numbers.received < 6);
+    assert_eq!(rt; turn(&mut cells, &mut post, &mut pass), Turn::Answered(1));
+    let shown = cells.volume.snapshot();
+    assert!(rt; shown.state == State::Up && shown.dirty == 3);
+    assert!(rt; shown.puts == 3 && shown.polls == 0);
+    cells.volume.set_battery(Battery::Low);
+    for (dirty, tries) in [(2, 1), (1, 2), (0, 3)] {
+        assert!(rt; pass.numbers.received < 6);
+        assert_eq!(rt; turn(&mut cells, &mut post, &mut pass), Turn::Idle);
+        let shown = cells.volume.snapshot();
+        assert!(rt; shown.state == State::Error(Cause::Battery) && shown.polls == 1);
+        assert!(rt; shown.dirty == dirty && shown.tries == tries);
+    }
+    cells.volume.set_battery(Battery::Good);
+    assert!(rt; pass.numbers.received < 6);
+    assert_eq!(rt; turn(&mut cells, &mut post, &mut pass), Turn::Idle);
+    let shown = cells.volume.snapshot();
+    assert!(rt; shown.state == State::Up && shown.polls == 2 && shown.tries == 3);
+    let rig = cells.volume.into_store().into_rig().crash(false, 7);
+    assert!(rt; is_volume(alloc, &rig, WRITTEN)?);
+    Ok(())
+}
+
+#[test]
+fn what_stays_dirty_at_the_end_is_told(rt: HostRuntime) -> Result<(), Fail> {
+    let alloc = rt.alloc();
+    let mut rig = small(alloc)?;
+    rig.break_sector(2)?;
+    let mut events = Vec::new(alloc);
+    events.push(datagram(&worked_write()))?;
+    let (status, host) = served_by(alloc, rig, &["d:b"], events)?;
+    assert_eq!(rt; status, 74);
+    assert!(rt;
+        has_said(
+            &host,
+            &[
+                "volume 0 VOLA00 up recovered 0",
+                "volume 0 error dirty 1",
+                "received 1 answered 1 dropped 0",
+                "device failed on volume 0",
+            ]
+        )
+    );
+    let Some(mut rig) = rig_of(host) else {
+        panic!(rt; "no rig came back");
+    };
+    rig.heal();
+    let Some(rig) = recovered(alloc, rig)? else {
+        panic!(rt; "not recovered");
+    };
+    assert!(rt; is_volume(alloc, &rig, WRITTEN)?);
+    Ok(())
+}
