@@ -1,2 +1,4 @@
 pub mod Addresses
+pub mod Boards
+pub mod Layout
 pub mod Silent
