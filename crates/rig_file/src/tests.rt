@@ -1,6 +1,6 @@
 use crate::address::address_of;
 use crate::{FileRig, RealHost, StdSay, UdpLink};
-use rig::{Battery, Clock, Event, Failed, Host, HostFault, Link, Packet, Pauser, Rig, Say};
+use rig::{Battery, Clock, Event, Failed, Host, HostFault, Link, Packet, Pauser, Post, Rig, Say};
 use std::fs;
 use std::net::{Ipv4Addr, SocketAddr};
 use std::test::Fail;
@@ -178,19 +178,28 @@ fn the_host_makes_and_opens_rigs_or_says_why_not(rt: HostRuntime) -> Result<(), 
     Ok(())
 }
 
+// Whether nothing has come, and it is later than the end of the year 2000.
+fn is_quiet<L: Link, C: Clock, P: Pauser>(post: &mut Post<L, C, P>) -> bool {
+    let mut packet = Packet::new();
+    post.pauser.pause();
+    post.link.recv(&mut packet) == Event::Idle && post.clock.now() > 978_307_199
+}
+
+// Whether the host gives a quiet post.
+fn gives_a_quiet_post(host: &mut impl Host) -> bool {
+    let Ok(mut post) = host.post(0, 0) else {
+        return false;
+    };
+    let quiet = is_quiet(&mut post);
+    host.give_back_post(0, post);
+    quiet
+}
+
 #[test]
 fn the_host_gives_posts_that_work(rt: HostRuntime) -> Result<(), Fail> {
     let mut host = RealHost::new(rt.clone()?);
-    let Ok(mut post) = host.post(0, 0) else {
-        return Err(Fail::new("no post was given"));
-    };
-    let mut packet = Packet::new();
-    assert_eq!(rt; post.link.recv(&mut packet), Event::Idle);
-    post.pauser.pause();
-    // the end of the year 2000
-    assert!(rt; post.clock.now() > 978_307_199);
+    assert!(rt; gives_a_quiet_post(&mut host));
     assert!(rt; host.now() > 978_307_199);
-    host.give_back_post(0, post);
     Ok(())
 }
 
