@@ -101,7 +101,9 @@ impl<T: Files<File = File> + AllocGlobal + Drop> FileRig<T> {
         let file = make_device(&system, disk, disk_length(sectors))?;
         Ok(FileRig::over(system, file, sectors, memory))
     }
+}
 
+impl<T: Files<File = File> + Drop> FileRig<T> {
     // Nothing is counted yet.
     fn over(system: T, disk: File, sectors: u32, board: Option<BoardFile>) -> FileRig<T>
         ensures sectors { result.sectors ≡ sectors }
@@ -133,7 +135,7 @@ impl<T: Files<File = File> + AllocGlobal + Drop> FileRig<T> {
     }
 }
 
-impl<T: Files<File = File> + AllocGlobal + Drop> Rig for FileRig<T> {
+impl<T: Files<File = File> + Drop> Rig for FileRig<T> {
     ghost tells = { ⊥ };
 
     ghost contents = { λ _. nothing };

@@ -20,7 +20,7 @@ impl<T> StdSay<T> {
     }
 
     /// The system whose output it is.
-    pub fn system(&self) -> &T
+    pub(crate) fn system(&self) -> &T
         ensures { result.now ≡ self.now.system }
     {
         &self.system
