@@ -2,6 +2,7 @@ ghost use Rattle.std.specs.Prelude.{◌≡◌, ◌+◌, ◌<◌, ◌≤◌, ◌�
 ghost use Rattle.stable.specs.declared.battery.Battery.{Battery};
 ghost use Rattle.rig.specs.Devices.{IsBoard};
 ghost use Rattle.rig_file.specs.Boards.{words_of, buffers_of, kept_of};
+ghost use Rattle.rig_file.specs.Rigs.{IsNew};
 ghost use Rattle.rig_file.specs.Silent.{nothing, sized};
 
 use crate::board_file::BoardFile;
@@ -35,7 +36,7 @@ fn open_board<T: Files<File = File> + AllocGlobal>(
     system: &T,
     path: Option<&str>,
 ) -> io::Result<Option<BoardFile>>
-    ensures { IfOk result (λ board. board ≡ None ↔ path.entry ≡ None) }
+    ensures { IfOk result (λ board. buffers_of board ≡ 0 ↔ path.entry ≡ None) }
 {
     match path {
         Some(path) => Ok(Some(BoardFile::open(system, path)?)),
@@ -66,10 +67,8 @@ impl<T: Files<File = File> + AllocGlobal + Drop> FileRig<T> {
     /// Opens the disk and, where one is named, the board. It fails where a file isn't there, where the disk isn't whole sectors,
     /// fewer than 2 to the 32, and where the board's length is that of no board.
     pub fn open(system: T, disk: &str, board: Option<&str>) -> io::Result<FileRig<T>>
-        ensures board { IfOk result (λ rig. rig.board ≡ None ↔ board.entry ≡ None) }
-        ensures faults { IfOk result (λ rig. rig.faults ≡ 0) }
-        ensures disk_writes { IfOk result (λ rig. rig.disk_writes ≡ 0) }
-        ensures readings { IfOk result (λ rig. rig.readings ≡ 0) }
+        ensures board { IfOk result (λ rig. (⟦<FileRig<T> as Rig>⟧.sizes rig).buffers ≡ 0 ↔ board.entry ≡ None) }
+        ensures new { IfOk result (IsNew ⟦<FileRig<T> as Rig>⟧) }
     {
         let memory = open_board(&system, board)?;
         let file = open_device(&system, disk)?;
@@ -89,13 +88,11 @@ impl<T: Files<File = File> + AllocGlobal + Drop> FileRig<T> {
         board: Option<&str>,
         buffers: u32,
     ) -> io::Result<FileRig<T>>
-        ensures sectors { IfOk result (λ rig. rig.sectors ≡ sectors) }
-        ensures buffers { IfOk result (λ rig. buffers_of rig.board ≡ buffers) }
-        ensures kept { IfOk result (λ rig. kept_of rig.board ≡ true) }
+        ensures sectors { IfOk result (λ rig. (⟦<FileRig<T> as Rig>⟧.sizes rig).sectors ≡ sectors) }
+        ensures buffers { IfOk result (λ rig. (⟦<FileRig<T> as Rig>⟧.sizes rig).buffers ≡ buffers) }
+        ensures kept { IfOk result (λ rig. ⟦<FileRig<T> as Rig>⟧.is_kept rig ≡ true) }
+        ensures new { IfOk result (IsNew ⟦<FileRig<T> as Rig>⟧) }
         ensures named { board.entry ≡ None → 0 < buffers → IsErr result }
-        ensures faults { IfOk result (λ rig. rig.faults ≡ 0) }
-        ensures disk_writes { IfOk result (λ rig. rig.disk_writes ≡ 0) }
-        ensures readings { IfOk result (λ rig. rig.readings ≡ 0) }
     {
         let memory = make_board(&system, board, buffers)?;
         let file = make_device(&system, disk, disk_length(sectors))?;
@@ -108,9 +105,7 @@ impl<T: Files<File = File> + Drop> FileRig<T> {
     fn over(system: T, disk: File, sectors: u32, board: Option<BoardFile>) -> FileRig<T>
         ensures sectors { result.sectors ≡ sectors }
         ensures board { result.board ≡ board }
-        ensures faults { result.faults ≡ 0 }
-        ensures disk_writes { result.disk_writes ≡ 0 }
-        ensures readings { result.readings ≡ 0 }
+        ensures new { IsNew ⟦<FileRig<T> as Rig>⟧ result }
     {
         FileRig {
             system,

@@ -1,6 +1,5 @@
 ghost use Rattle.std.specs.Prelude.{◌≡◌, ◌-◌, ◌≤◌, ℕ, None, IfOk};
 ghost use Rattle.stable.specs.Counts.{one_more};
-ghost use Rattle.rig_file.specs.Boards.{buffers_of};
 ghost use Rattle.rig.specs.Hosts.{SameLoans, SameLines, TakesBack, HostCause};
 
 use crate::count::count;
@@ -9,7 +8,7 @@ use crate::sleep_pauser::SleepPauser;
 use crate::std_say::StdSay;
 use crate::system_clock::{SystemClock, seconds};
 use crate::udp_link::UdpLink;
-use rig::{Failed, Host, HostFault, Post, Say};
+use rig::{Failed, Host, HostFault, Post, Rig, Say};
 use std::fs::File;
 use std::io::ErrorKind;
 use std::net::Net;
@@ -100,8 +99,8 @@ fn new_rig<T: Files<File = File> + AllocGlobal + Clone + Drop>(
     board: Option<&str>,
     buffers: u32,
 ) -> io::Result<FileRig<T>>
-    ensures sectors { IfOk result (λ rig. rig.sectors ≡ sectors) }
-    ensures buffers { IfOk result (λ rig. buffers_of rig.board ≡ buffers) }
+    ensures sectors { IfOk result (λ rig. (⟦<FileRig<T> as Rig>⟧.sizes rig).sectors ≡ sectors) }
+    ensures buffers { IfOk result (λ rig. (⟦<FileRig<T> as Rig>⟧.sizes rig).buffers ≡ buffers) }
 {
     FileRig::make(system.clone()?, disk, sectors, board, buffers)
 }
