@@ -1,4 +1,4 @@
-ghost use Rattle.std.specs.Prelude.{◌≡◌, true, false, ◌↔◌, ◌≤◌, ◌<◌, IfOk, OnOk, OnErr, Ok, IsTrue};
+ghost use Rattle.std.specs.Prelude.{◌≡◌, true, false, ◌↔◌, ◌≤◌, ◌<◌, IfOk, OnOk, OnErr, Ok};
 ghost use Rattle.stable.specs.declared.battery.Battery.{Battery};
 
 use crate::device::{make_device, open_device, put};

@@ -1,4 +1,4 @@
-ghost use Rattle.std.specs.Prelude.{◌≡◌, ◌+◌, ◌<◌, ◌≤◌, ◌↔◌, ℕ, true, None, IfOk, IsErr, OnOk};
+ghost use Rattle.std.specs.Prelude.{◌≡◌, ◌+◌, ◌<◌, ◌↔◌, ℕ, true, None, IfOk, IsErr};
 ghost use Rattle.stable.specs.declared.battery.Battery.{Battery};
 ghost use Rattle.rig.specs.Devices.{IsBoard};
 ghost use Rattle.rig_file.specs.Boards.{words_of, buffers_of, kept_of};
@@ -6,7 +6,7 @@ ghost use Rattle.rig_file.specs.Rigs.{IsNew};
 ghost use Rattle.rig_file.specs.Silent.{nothing, sized};
 
 use crate::board_file::BoardFile;
-use crate::count::{count, counted, failed};
+use crate::count::{count, counted};
 use crate::device::{make_device, open_device, put};
 use crate::layout::{disk_length, whole_sectors};
 use rig::{Battery, Failed, Rig};

@@ -1,5 +1,5 @@
 // The sizes of a disk's and a board's file, and the places in a board's file.
-ghost use Rattle.std.specs.Prelude.{◌≡◌, ◌+◌, ◌*◌, ◌/◌, ◌-◌, ◌%◌, ◌<◌, ◌≤◌, ◌^◌, ◌≢◌, ℕ, IfSome, IsNone};
+ghost use Rattle.std.specs.Prelude.{◌≡◌, ◌+◌, ◌*◌, ◌/◌, ◌-◌, ◌<◌, ◌≤◌, ◌^◌, ◌≢◌, ℕ, IfSome, IsNone};
 ghost use Rattle.byteorder.specs.Endian.{little_bytes, little_number};
 ghost use Rattle.rig_file.specs.Layout.{buffer_at, kept_at, board_bytes};
 
