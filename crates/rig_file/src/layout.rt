@@ -11,6 +11,12 @@ pub const FEWEST_BUFFERS: u32 = 2;
 /// The most buffers of a board.
 pub const MOST_BUFFERS: u32 = 2048;
 
+// What a buffer adds to a board's file: its bytes, and a word.
+const BUFFER_SHARE: u64 = 520;
+
+// What a board's file has beside: one word more, and the byte that says whether the memory was kept.
+const BESIDE: u64 = 9;
+
 /// How many sectors of 512 bytes a file of this length holds; none where it ends within one, or holds 2 to the 32 or more.
 pub fn whole_sectors(length: u64) -> Option<u32>
     ensures some { IfSome result (λ sectors. length ≡ 512 * sectors) }
@@ -34,11 +40,11 @@ pub fn buffers_in(length: u64) -> Option<u32>
     ensures some { IfSome result (λ buffers. (2 ≤ buffers) × (buffers ≤ 2048) × (length ≡ board_bytes buffers)) }
     ensures none { IsNone result → (buffers : ℕ) → 2 ≤ buffers → buffers ≤ 2048 → length ≢ board_bytes buffers }
 {
-    let rest = length.checked_sub(9)?;
-    if !rest.is_multiple_of(520) {
+    let rest = length.checked_sub(BESIDE)?;
+    if !rest.is_multiple_of(BUFFER_SHARE) {
         return None;
     }
-    let buffers = u32::try_from(rest / 520).ok()?;
+    let buffers = u32::try_from(rest / BUFFER_SHARE).ok()?;
     if !(FEWEST_BUFFERS..=MOST_BUFFERS).contains(&buffers) {
         return None;
     }
