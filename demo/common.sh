@@ -6,6 +6,9 @@ repository=$(cd "$(dirname "${BASH_SOURCE[0]}")/.." && pwd)
 program=${NFSD:-$repository/crates/nfsd/out/nfsd} # another build, where NFSD names one
 folder=$(mktemp -d)
 disk=$folder/disk.img
+board=$folder/board.img
+volume=$disk # what the program is told to serve; DISK:BOARD where a board is used
+turns=40
 running=
 
 # Ends what still runs, and leaves no file behind.
@@ -64,9 +67,14 @@ hex_at() {
     od -An -v -tx1 -j "$2" -N "$3" "$1" | tr -d ' \n'
 }
 
+# poke_in FILE OFFSET HEX: puts bytes into a file.
+poke_in() {
+    bytes "$3" | dd of="$1" bs=4096 seek="$2" oflag=seek_bytes conv=notrunc status=none
+}
+
 # poke OFFSET HEX: puts bytes into the disk.
 poke() {
-    bytes "$2" | dd of="$disk" bs=4096 seek="$1" oflag=seek_bytes conv=notrunc status=none
+    poke_in "$disk" "$1" "$2"
 }
 
 # inode NUMBER MODE NLINK OWNER SIZE BLOCK [BLOCK]: one with generation 1 and the times 1000.
@@ -112,6 +120,22 @@ make_volume() {
     poke $((4 * 512 + 16)) "$(le16 2)$(text_hex ..)"
     poke $((4 * 512 + 32)) "$(le16 3)$(text_hex f)"
     file_of_letters | dd of="$disk" bs=4096 seek=$((5 * 512)) oflag=seek_bytes conv=notrunc status=none
+}
+
+# make_board BUFFERS: a board for that volume, without an entry, whose memory was kept.
+make_board() {
+    local kept=$((8 * ($1 + 1) + 512 * $1))
+    truncate -s 0 "$board"
+    truncate -s $((kept + 1)) "$board"
+    poke_in "$board" 0 "$(le32 0x544f5631)$(le32 0x50524553)" # PRESTOV1
+    poke_in "$board" 8 "$(le32 0x4c413030)$(le32 0x564f)"     # VOLA00
+    poke_in "$board" $kept 01
+    buffers=$1
+}
+
+# entries: how many sectors the board holds, by its words.
+entries() {
+    od -An -v -tx8 -w8 -j 16 -N $((8 * (buffers - 1))) "$board" | grep -cv '^ *0*$'
 }
 
 # The file's bytes as they are at first.
@@ -162,7 +186,7 @@ start() {
     if call_stale; then
         fail "port $port is taken: another server answers there"
     fi
-    "$program" "$disk" --workers 1 --turns 40 >"$1" 2>&1 &
+    "$program" "$volume" --workers 1 --turns $turns >"$1" 2>&1 &
     running=$!
     for ((turn = 0; turn < 50; turn++)); do
         if ! kill -0 "$running" 2>/dev/null; then
@@ -172,7 +196,7 @@ start() {
             fail "the program ended with status $status: $(cat "$1")"
         fi
         if answers; then
-            say "started: nfsd disk.img --workers 1 --turns 40, at 127.0.0.1 port $port"
+            say "started: nfsd ${volume//"$folder/"/} --workers 1 --turns $turns, at 127.0.0.1 port $port"
             return
         fi
         sleep 0.1
@@ -202,6 +226,14 @@ finish() {
     if [ $status -ne 72 ]; then
         fail "its status is $status, and not 72 for turns that are spent"
     fi
+}
+
+# Kills the program, so that it can end nothing in order.
+kill_program() {
+    kill -KILL "$running"
+    { wait "$running"; } 2>/dev/null
+    say "killed, with status $?"
+    running=
 }
 
 # file_call XID PROCEDURE: the words of a call on the file `f`, by its owner, up to its handle.
@@ -256,9 +288,9 @@ answers_with() {
     fi
 }
 
-# write_bytes XID OFFSET HEX: sends the WRITE, and checks every word of its reply.
+# send_write XID OFFSET HEX: sends the WRITE, and checks every word of its reply.
 # The two seconds in it, of the last change of bytes and of attributes, are the clock's; `second` keeps them.
-write_bytes() {
+send_write() {
     local before after
     write_call "$1" "$2" "$3" >"$folder/call"
     before=$(date +%s)
@@ -269,6 +301,11 @@ write_bytes() {
     if [ $((16#$second)) -lt "$before" ] || [ $((16#$second)) -gt "$after" ]; then
         fail "the second in the reply is not the clock's"
     fi
+}
+
+# write_bytes XID OFFSET HEX: sends the WRITE; its second is on the disk when the reply has come.
+write_bytes() {
+    send_write "$@"
     stored_second $((16#$second))
 }
 

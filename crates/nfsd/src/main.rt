@@ -1,19 +1,9 @@
 //! The NFS server as a program: its words, this machine as its host, and its status.
 #![tactic(auto)]
 
-mod address;
-mod count;
-mod file_rig;
-mod real_host;
-mod sleep_pauser;
-mod system_clock;
-#[cfg(test)]
-mod tests;
-mod udp_link;
-
 use nfs_server::{USAGE, serve};
-use real_host::RealHost;
 use rig::Say;
+use rig_file::RealHost;
 use std::io::ErrorKind;
 use std::process::ExitCode;
 use std::rt::Env;

@@ -1,13 +1,14 @@
-ghost use Rattle.std.specs.Prelude.{◌≡◌, ◌-◌, ◌≤◌, ℕ, None};
+ghost use Rattle.std.specs.Prelude.{◌≡◌, ◌-◌, ◌≤◌, ℕ, None, IfOk};
 ghost use Rattle.stable.specs.Counts.{one_more};
 ghost use Rattle.rig.specs.Hosts.{SameLoans, SameLines, TakesBack, HostCause};
 
-use crate::count::{count, counted};
+use crate::count::count;
 use crate::file_rig::FileRig;
 use crate::sleep_pauser::SleepPauser;
+use crate::std_say::StdSay;
 use crate::system_clock::{SystemClock, seconds};
 use crate::udp_link::UdpLink;
-use rig::{Failed, Host, HostFault, Post, Say};
+use rig::{Failed, Host, HostFault, Post, Rig, Say};
 use std::fs::File;
 use std::io::ErrorKind;
 use std::net::Net;
@@ -25,16 +26,13 @@ struct OpenPort {
 }
 
 /// This machine: its files, one UDP port, its clock, and standard output for the lines.
-///
-/// It opens a disk without a board. A board that is named, and making a rig, answer Failed.
 #[derive(Drop)]
 pub struct RealHost<T> {
-    system: T,
+    output: StdSay<T>,
     open_port: Option<OpenPort>,
     rigs_out: u64,
     posts_out: u64,
     host_faults: u64,
-    say_faults: u64,
 }
 
 impl<T> RealHost<T> {
@@ -43,15 +41,14 @@ impl<T> RealHost<T> {
         ensures rigs { result.rigs_out ≡ 0 }
         ensures posts { result.posts_out ≡ 0 }
         ensures faults { result.host_faults ≡ 0 }
-        ensures say_faults { result.say_faults ≡ 0 }
+        ensures say_faults { result.output.faults ≡ 0 }
     {
         RealHost {
-            system,
+            output: StdSay::new(system),
             open_port: None,
             rigs_out: 0,
             posts_out: 0,
             host_faults: 0,
-            say_faults: 0,
         }
     }
 }
@@ -85,16 +82,27 @@ fn make_post<T: Net + Clone + Drop>(
     })
 }
 
-// Opens a disk; no board can be opened yet.
-fn open_rig(
-    files: &impl Files<File = File>,
+// Opens a rig on the same system.
+fn open_rig<T: Files<File = File> + AllocGlobal + Clone + Drop>(
+    system: &T,
     disk: &str,
     board: Option<&str>,
-) -> io::Result<FileRig> {
-    if board.is_some() {
-        return Err(io::Error::from(ErrorKind::Unsupported));
-    }
-    FileRig::open(files, disk)
+) -> io::Result<FileRig<T>> {
+    FileRig::open(system.clone()?, disk, board)
+}
+
+// Makes a rig on the same system.
+fn new_rig<T: Files<File = File> + AllocGlobal + Clone + Drop>(
+    system: &T,
+    disk: &str,
+    sectors: u32,
+    board: Option<&str>,
+    buffers: u32,
+) -> io::Result<FileRig<T>>
+    ensures sectors { IfOk result (λ rig. (⟦<FileRig<T> as Rig>⟧.sizes rig).sectors ≡ sectors) }
+    ensures buffers { IfOk result (λ rig. (⟦<FileRig<T> as Rig>⟧.sizes rig).buffers ≡ buffers) }
+{
+    FileRig::make(system.clone()?, disk, sectors, board, buffers)
 }
 
 // Counts a failed call, and says whether it was for want of memory.
@@ -112,18 +120,18 @@ fn host_fault(error: &io::Error, faults: &mut u64) -> HostFault
 impl<T: Print + Drop> Say for RealHost<T> {
     ghost lines = { λ _. None };
 
-    ghost say_faults = { λ host. host.say_faults };
+    ghost say_faults = { λ host. host.output.faults };
 
     ghost OnlySays = { λ old new. (new.rigs_out ≡ old.rigs_out) × (new.posts_out ≡ old.posts_out) × (new.host_faults ≡ old.host_faults) };
 
     fn say(&mut self, line: &str) -> Result<(), Failed> {
-        let done = self.system.println(line);
-        counted(done, &mut self.say_faults)
+        self.output.say(line)
     }
 }
 
-impl<T: Print + Files<File = File> + Net + rt::Clock + Clone + Send + Drop> Host for RealHost<T> {
-    type R = FileRig;
+impl<T: Print + Files<File = File> + Net + rt::Clock + AllocGlobal + Clone + Send + Drop> Host
+    for RealHost<T> {
+    type R = FileRig<T>;
 
     type L = UdpLink;
 
@@ -153,8 +161,8 @@ impl<T: Print + Files<File = File> + Net + rt::Clock + Clone + Send + Drop> Host
 
     ghost say_keeps_faults = { λ old new only. only.2 };
 
-    fn rig(&mut self, disk: &str, board: Option<&str>) -> Result<FileRig, HostFault> {
-        match open_rig(&self.system, disk, board) {
+    fn rig(&mut self, disk: &str, board: Option<&str>) -> Result<FileRig<T>, HostFault> {
+        match open_rig(self.output.system(), disk, board) {
             Ok(rig) => {
                 count(&mut self.rigs_out);
                 Ok(rig)
@@ -163,20 +171,24 @@ impl<T: Print + Files<File = File> + Net + rt::Clock + Clone + Send + Drop> Host
         }
     }
 
-    /// Answers Failed: this program makes no volumes.
     fn make_rig(
         &mut self,
-        _disk: &str,
-        _sectors: u32,
-        _board: Option<&str>,
-        _buffers: u32,
-    ) -> Result<FileRig, HostFault> {
-        count(&mut self.host_faults);
-        Err(HostFault::Failed)
+        disk: &str,
+        sectors: u32,
+        board: Option<&str>,
+        buffers: u32,
+    ) -> Result<FileRig<T>, HostFault> {
+        match new_rig(self.output.system(), disk, sectors, board, buffers) {
+            Ok(rig) => {
+                count(&mut self.rigs_out);
+                Ok(rig)
+            }
+            Err(error) => Err(host_fault(&error, &mut self.host_faults)),
+        }
     }
 
     fn post(&mut self, port: u16, _worker: u32) -> Result<RealPost<T>, HostFault> {
-        let made: Result<_, _> = make_post(&self.system, &mut self.open_port, port);
+        let made: Result<_, _> = make_post(self.output.system(), &mut self.open_port, port);
         match made {
             Ok(post) => {
                 count(&mut self.posts_out);
@@ -187,10 +199,10 @@ impl<T: Print + Files<File = File> + Net + rt::Clock + Clone + Send + Drop> Host
     }
 
     fn now(&mut self) -> u32 {
-        seconds(&self.system)
+        seconds(self.output.system())
     }
 
-    fn give_back_rig(&mut self, _volume: u32, _rig: FileRig) {
+    fn give_back_rig(&mut self, _volume: u32, _rig: FileRig<T>) {
         self.rigs_out = self.rigs_out.saturating_sub(1);
     }
 

@@ -1,4 +1,4 @@
-ghost use Rattle.std.specs.Prelude.{◌≡◌, ◌≤◌, ◌↔◌, ℕ, IsOk};
+ghost use Rattle.std.specs.Prelude.{◌≡◌, ◌≤◌, ◌↔◌, ℕ, Ok, IsOk, IfOk};
 ghost use Rattle.stable.specs.Counts.{HasCause, one_more};
 
 use rig::Failed;
@@ -22,13 +22,14 @@ pub fn failed(faults: &mut u64) -> Failed
 }
 
 /// What a system call answered, as the outside answers it. A failure is counted.
-pub fn counted(done: io::Result<()>, faults: &mut u64) -> Result<(), Failed>
+pub fn counted<A: Drop>(done: io::Result<A>, faults: &mut u64) -> Result<A, Failed>
     ensures same { IsOk result ↔ IsOk done }
+    ensures answer { IfOk done (λ answer. result ≡ Ok answer) }
     ensures cause { HasCause faults.old faults.new result }
     ensures uncounted { IsOk done → faults.new ≡ faults.old }
 {
     match done {
-        Ok(()) => Ok(()),
+        Ok(answer) => Ok(answer),
         Err(_) => Err(failed(faults)),
     }
 }

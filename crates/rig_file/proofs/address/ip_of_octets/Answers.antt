@@ -1,6 +1,6 @@
 use Rattle.std.proofs.Common.{rules}
-use Rattle.nfsd.proofs.Octets.{canonical}
-use Rattle.nfsd.proofs.address.ip_of_octets.Goals as goal
+use Rattle.rig_file.proofs.Octets.{canonical}
+use Rattle.rig_file.proofs.address.ip_of_octets.Goals as goal
 
 -- src/address.rt:38:1
 pub returns : goal.returns

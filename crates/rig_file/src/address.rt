@@ -1,6 +1,6 @@
 ghost use Rattle.std.specs.Prelude.{◌≡◌};
 ghost use Rattle.std.specs.Net.Socket.{socket_ip, socket_port};
-ghost use Rattle.nfsd.specs.Addresses.{known_as};
+ghost use Rattle.rig_file.specs.Addresses.{known_as};
 
 use rig::Address;
 use std::net::{IpAddr, Ipv6Addr, SocketAddr};

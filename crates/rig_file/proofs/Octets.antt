@@ -5,7 +5,7 @@ use Rattle.std.specs.declared.net.ip_addr.IpAddr.{IpAddr}
 use Rattle.std.specs.declared.net.ip_addr.IpAddr.TheVariants.{V4, V6}
 use Rattle.std.specs.declared.net.ipv6_addr.Ipv6Addr.{Ipv6Addr}
 use Rattle.std.specs.Net.Addr.{segments_of, octets_of, ipv6_segments, ipv4_octets, IsCanonicalOf}
-use Rattle.nfsd.specs.Addresses.{known_as}
+use Rattle.rig_file.specs.Addresses.{known_as}
 
 -- the octets of the segments that octets make
 octets_back : (n : ℕ) (xs : List ℕ) → length xs ≡ 2 * n → ((k : ℕ) → get_or xs k 0 < 256) → octets_of (segments_of xs) ≡ xs

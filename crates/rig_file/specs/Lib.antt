@@ -1,0 +1,5 @@
+pub mod Addresses
+pub mod Boards
+pub mod Layout
+pub mod Rigs
+pub mod Silent
