@@ -161,4 +161,5 @@ module _ (mid : Image) (size isize now : ℕ) (pack : List ℕ) (put : IsPut mid
       places = chained.places;
       listed = listed_are numbers (inodes_before isize - 2) (super_of (sector_at new 1)).s_inode (super_of (sector_at new 1)).s_ninode numbers_left
           (rising-from numbers 3 (8 * (isize - 2) + 1) others (omega (arith, low)) ∙ (let e : 8 * (isize - 2) + 1 - 3 ≡ (isize - 2) * 8 - 2 = omega arith in ap (range_with_len 3) e)) chained.listed;
+      whole = chained.whole;
     }

@@ -6,6 +6,7 @@ use Rattle.v7_layout.specs.declared.inode.Inode.{Inode}
 use Rattle.v7_layout.specs.declared.super_block.Super.{Super}
 use Rattle.v7_layout.specs.Numbers.{part}
 use Rattle.v7_layout.specs.Records.{inode_of, super_of}
+use Rattle.v7_layout.specs.Written.{super_bytes}
 use Rattle.files_model.specs.declared.attributes.Kind.TheVariants.{Directory}
 use Rattle.files_model.specs.Files.{Slot, Node, Files, tabulated}
 use Rattle.files_model.specs.Space.{free}
@@ -98,7 +99,7 @@ pub record ListsFirst (from many : ℕ) (numbers : List ℕ) (count : ℕ) : Typ
   pub listed : (k : ℕ) → k < count → get_or numbers k 0 ≡ from + (count - 1 - k)
   pub rest : (k : ℕ) → count ≤ k → get_or numbers k 0 ≡ 0
 
--- What is promised of a volume whose list of inodes ends at block isize: it has nothing to mend and the root alone, was stopped cleanly, and its free chain and its list of i-numbers have all that are free. So many blocks are. Free inodes are zeros.
+-- What is promised of a volume whose list of inodes ends at block isize: it has nothing to mend and the root alone, and so many blocks are free. Free inodes are zeros. It was stopped cleanly, and its free chain and its list of i-numbers have all that are free.
 pub record IsMade (image : Image) (size isize : ℕ) (pack : List ℕ) (now left : ℕ) : Type 0 where
   pub strong : IsStrong (frame image)
   pub left_is : left ≡ free (view image)
@@ -108,6 +109,7 @@ pub record IsMade (image : Image) (size isize : ℕ) (pack : List ℕ) (now left
   pub takes : Takes image (chain_in (super_of (sector_at image 1))) (range_with_len (isize + 1) left)
   pub places : HasPlaces (chain_in (super_of (sector_at image 1)))
   pub listed : ListsFirst 3 (inodes_before isize - 2) (super_of (sector_at image 1)).s_inode (super_of (sector_at image 1)).s_ninode
+  pub whole : sector_at image 1 ≡ super_bytes (super_of (sector_at image 1))
 
 -- What each moment of making leaves: the boot block, and what stands past the volume.
 pub record KeepsOutside (size : ℕ) (old new : Image) : Type 0 where

@@ -14,3 +14,6 @@ pub use fault::MakeFault;
 pub use sizes::fits;
 pub use stop::write_chain;
 pub use volume_made::make;
+
+#[cfg(test)]
+mod tests;
