@@ -117,9 +117,9 @@ pub record KeepsOutside (size : ℕ) (old new : Image) : Type 0 where
   pub boot : sector_at new 0 ≡ sector_at old 0
   pub past : (s : ℕ) → size ≤ s → sector_at new s ≡ sector_at old s
 
--- what each answer says: sizes are refused by the rule alone, and a refusal or want of memory leaves a store as it was
+-- what each answer says: sizes are refused by the rule alone, and a refusal or want of memory leaves a store as it was; what isn't needed for the inodes and the root is free
 abbrev pub Says : {S : Type 0} → Ghosts S → ℕ → ℕ → S → S → Result ℕ MakeFault → Type 0
-Says s size inodes old new (Ok left) = fitting size inodes ≡ Ok tt
+Says s size inodes old new (Ok left) = (fitting size inodes ≡ Ok tt) × (left ≡ size - need_of inodes)
 Says s size inodes old new (Err TooLarge) = (fitting size inodes ≡ Err TooLarge) × Untouched s old new
 Says s size inodes old new (Err (TooSmall need have)) = (fitting size inodes ≡ Err (TooSmall need have)) × Untouched s old new
 Says s size inodes old new (Err NoMemory) = (fitting size inodes ≡ Ok tt) × Untouched s old new
