@@ -131,18 +131,19 @@ fn chain_on(store: &mut Memory, blocks: &FreeSet, inodes: &FreeSet) -> Result<()
 
 #[test]
 fn a_chain_has_a_record_for_each_50_blocks(rt: HostRuntime) -> Result<(), Fail> {
-    // The lowest block of a volume of 128 sectors, how many puts its chain takes, and the list that comes into the super-block.
+    // From which block up to the end of the volume, how many puts the chain takes, and the list that comes into the super-block.
     let rows = [
-        (128, 1, 1, &[0, 0][..]),
-        (79, 1, 50, &[0, 127, 126]),
-        (78, 2, 1, &[78, 0]),
-        (29, 2, 50, &[78, 77, 76]),
-        (28, 3, 1, &[28, 0]),
-        (26, 3, 3, &[28, 27, 26, 0]),
+        (7, 64, 2, 8, &[14, 13, 12, 11, 10, 9, 8, 7, 0][..]),
+        (128, 128, 1, 1, &[0, 0]),
+        (79, 128, 1, 50, &[0, 127, 126]),
+        (78, 128, 2, 1, &[78, 0]),
+        (29, 128, 2, 50, &[78, 77, 76]),
+        (28, 128, 3, 1, &[28, 0]),
+        (26, 128, 3, 3, &[28, 27, 26, 0]),
     ];
-    for (lowest, puts, used, first) in rows {
+    for (lowest, size, puts, used, first) in rows {
         let mut store = Memory::new(rt.alloc(), &[[7; 512]; 128]).map_err(|_| "memory")?;
-        let blocks = numbers(rt.alloc(), lowest, 128).map_err(|_| "memory")?;
+        let blocks = numbers(rt.alloc(), lowest, size).map_err(|_| "memory")?;
         let inodes = numbers(rt.alloc(), 3, 1000).map_err(|_| "memory")?;
         assert_eq!(rt; chain_on(&mut store, &blocks, &inodes), Ok(()));
         assert!(rt; store.puts == puts, "from {lowest}");
