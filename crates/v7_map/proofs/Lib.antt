@@ -36,3 +36,5 @@ pub mod Whole
 pub mod Holes
 pub mod Finding
 pub mod Listings
+pub mod Unheld
+pub mod SuperPuts

@@ -1,0 +1,5 @@
+pub mod Sizes
+pub mod Sets
+pub mod Stops
+pub mod Chains
+pub mod Made
