@@ -21,9 +21,9 @@ pub still_not_up : (a b : State) (k l : ℕ) → StaysOrFails a b k l → a ≢ 
 still_not_up a b k l (inl ab) not = λ up. not (sym ab ∙ up)
 still_not_up a b k l (inr failed) not = absurd (not failed.0)
 
--- one more
-pub one_made : (n : ℕ) (a b c : Snapshot) (k l m : ℕ) → k ≤ l → l ≤ m → ArePuts n k l a b → ArePuts 1 l m b c → ArePuts (n + 1) k m a c
-one_made n a b c k l m low high so_far made = record {
+-- puts and then others
+pub made_then : (n o : ℕ) (a b c : Snapshot) (k l m : ℕ) → k ≤ l → l ≤ m → ArePuts n k l a b → ArePuts o l m b c → ArePuts (n + o) k m a c
+made_then n o a b c k l m low high so_far made = record {
   puts = omega (arith, so_far.puts, made.puts);
   state = stays_again a.state b.state c.state k l m low high so_far.state made.state;
   few = omega (arith, so_far.few, made.few);
@@ -33,6 +33,10 @@ one_made n a b c k l m low high so_far made = record {
   ups = made.ups ∙ so_far.ups;
   tries = made.tries ∙ so_far.tries;
 }
+
+-- one more
+pub one_made : (n : ℕ) (a b c : Snapshot) (k l m : ℕ) → k ≤ l → l ≤ m → ArePuts n k l a b → ArePuts 1 l m b c → ArePuts (n + 1) k m a c
+one_made n = made_then n 1
 
 stays_wider : (a b : State) (k l m n : ℕ) → k ≤ l → m ≤ n → StaysOrFails a b l m → StaysOrFails a b k n
 stays_wider a b k l m n low high (inl same) = inl same
