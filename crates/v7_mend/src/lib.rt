@@ -10,3 +10,6 @@ mod trim;
 mod trim_all;
 
 pub use passes::mend;
+
+#[cfg(test)]
+mod tests;
