@@ -13,7 +13,7 @@ use Rattle.v7_map.specs.Tree.{Tree, tree, is_named}
 use Rattle.v7_map.specs.Weak.{IsWeak}
 use Rattle.v7_map.specs.View.{view, files_of, node_of, body_of, body_at, held, kind_of}
 use Rattle.v7_map.proofs.Frames.{cond_same}
-use Rattle.v7_mend.specs.Keeps.{KeepsInode, FreesInode, KeepsFiles, SameFiles}
+use Rattle.v7_mend.specs.Keeps.{KeepsInode, FreesInode, KeepsFiles, KeepsVolume}
 use Rattle.v7_mend.proofs.KeptFrames.{kept-dir, kept-size, keeps-pruned, keeps-links, keeps-named, named_kept, keeps-weak}
 
 module _ (old new : Image) (weak : IsWeak (frame old)) (keeps : KeepsFiles old new) where
@@ -64,9 +64,9 @@ module _ (old new : Image) (weak : IsWeak (frame old)) (keeps : KeepsFiles old n
         read_only = is_read_only (keeps.first z);
       }
 
-  -- so at each moment the files are the same
-  pub same_files : SameFiles old new
-  same_files = record { weak = keeps-weak old new weak keeps; view = keeps-view }
+  -- so at each moment the volume is kept
+  pub keeps_volume : KeepsVolume old new
+  keeps_volume = record { files = record { weak = keeps-weak old new weak keeps; view = keeps-view }; super = keeps.first }
 
 -- nothing changes
 pub keeps_same : (image : Image) → KeepsFiles image image

@@ -12,5 +12,7 @@ mod Settling
 mod Decisions
 mod Updating
 mod SettleSteps
+mod Zeros
+mod Needed
 mod Mending
 mod Differing

@@ -1,6 +1,7 @@
 -- One more sector of inodes is settled.
-use Rattle.std.proofs.Common.{◌≡◌, ◌≢◌, inl, inr, ℕ, ◌+◌, ◌-◌, ◌*◌, ◌<◌, ◌≤◌, true, not, ◌==◌, ◌&&◌, cond, List, [], length, get_or, sym, ap, subst, ◌∙◌, arith, ⊎_elim, leb}
+use Rattle.std.proofs.Common.{◌≡◌, ◌≢◌, ◌⊎◌, inl, inr, ℕ, ◌+◌, ◌-◌, ◌*◌, ◌<◌, ◌≤◌, true, not, ◌==◌, ◌&&◌, cond, List, [], length, get_or, sym, ap, subst, ◌∙◌, arith, ⊎_elim, leb, set, get_or-set_other}
 use Rattle.std.proofs.lemmas.Bool.{cases_eq, lt-ltb}
+use Rattle.std.proofs.lemmas.List.{set-get_or}
 use Rattle.std.specs.List.{range_with_len, list_any}
 use Rattle.v7_layout.specs.declared.inode.Inode.{Inode}
 use Rattle.v7_layout.specs.Numbers.{part, field}
@@ -15,9 +16,9 @@ use Rattle.v7_map.proofs.Ranges.{address-inside}
 use Rattle.v7_map.proofs.AnyFrame.{frame-IsFrame}
 use Rattle.v7_map.proofs.Walks.{and_both, or_right}
 use Rattle.v7_mend.specs.Keeps.{KeepsFiles}
-use Rattle.v7_mend.specs.Repairs.{AreLinks, SettledTo}
+use Rattle.v7_mend.specs.Repairs.{AreLinks, AreSettledIn, SettledTo}
 use Rattle.v7_mend.specs.Settled.{settled_inode, holds_below, holds_in}
-use Rattle.v7_mend.specs.Settles.{inode_here, Settles, MaySettle, MapStands, IsSettled}
+use Rattle.v7_mend.specs.Settles.{inode_here, AreSettledHere, Settles, MaySettle, MapStands, IsSettled}
 use Rattle.v7_mend.specs.Trims.{has_map, IsTrimmed}
 use Rattle.v7_mend.proofs.KeptFrames.{keeps-weak, keeps-links}
 use Rattle.v7_mend.proofs.KeptFiles.{keeps_then}
@@ -26,7 +27,7 @@ use Rattle.v7_mend.proofs.Mapping.{used_of}
 use Rattle.v7_mend.proofs.Settling.{settles-keeps, settles-inode_other, settles-address_other, settles-settled, settles-data, settles-inode}
 use Rattle.v7_mend.proofs.Decisions.{settled_has}
 
-leb_true : (a b : ℕ) → a ≤ b → leb a b ≡ true
+pub leb_true : (a b : ℕ) → a ≤ b → leb a b ≡ true
 leb_true a b le = grind arith
 
 pub inode_read : (image : Image) (i : ℕ) → is_inode image i ≡ true → inode_at image i ≡ inode_here (sector_at image (inode_sector i)) i
@@ -61,6 +62,9 @@ module _ (old mid : Image) (counts : List ℕ) (s : ℕ) (weak : IsWeak (frame o
 
   are_mid : (i : ℕ) → is_inode mid i ≡ true → get_or counts i 0 ≡ links (tree (frame mid)) i
   are_mid i in' = are i (sym (is_inode_mid i) ∙ in') ∙ sym (keeps-links old mid weak so_far.files i)
+
+  number_in : (i : ℕ) → 1 ≤ i → inode_sector i ≡ s → is_inode mid i ≡ true
+  number_in i one at = let h = high_mid in and_both (leb 1 i) (leb i (inodes_before (isize_of mid))) (leb_true 1 i one) (leb_true i (inodes_before (isize_of mid)) (omega (arith, one, at, h)))
 
   module _ (new : Image) (puts : Settles mid new s counts) where
     files : KeepsFiles mid new
@@ -108,6 +112,31 @@ module _ (old mid : Image) (counts : List ℕ) (s : ℕ) (weak : IsWeak (frame o
         other_address i ne (Body k) ∙ was (sym same ∙ ap (λ (n : Inode). has_map new n (get_or counts i 0)) (sym (other_inode i ne)) ∙ has) k ten
         (subst (λ (n : Inode). sectors_of n.size ≤ k) (other_inode i ne) past)
 
+    other_sector : (q : ℕ) → q ≢ s → sector_at new q ≡ sector_at mid q
+    other_sector q ne = ap (λ x. sector_at x q) puts.is ∙ get_or-set_other mid s q puts.bytes [] ne
+
+    not_here : (q : ℕ) → q ≡ s → (q < 2) ⊎ (s + 1 ≤ q) → ⊥
+    not_here q e (inl lt) = omega (arith, e, lt, low)
+    not_here q e (inr ge) = omega (arith, e, ge)
+
+    still_out : (q : ℕ) → (q < 2) ⊎ (s + 1 ≤ q) → (q < 2) ⊎ (s ≤ q)
+    still_out q (inl lt) = inl lt
+    still_out q (inr ge) = inr (omega (arith, ge))
+
+    -- where the inodes of the sector had nothing to mend, it is as it was
+    same_here : AreSettledIn old counts s → sector_at new s ≡ sector_at mid s
+    same_here all = ap (λ x. sector_at x s) (puts.is ∙ ap (set mid s) (puts.settled.same each) ∙ set-get_or mid s [])
+      where
+        each : AreSettledHere mid (sector_at mid s) s counts
+        each i one at =
+            let in' : is_inode mid i ≡ true = number_in i one at in
+            let read : inode_at mid i ≡ inode_here (sector_at mid s) i = inode_read mid i in' ∙ ap (λ q. inode_here (sector_at mid q) i) at in
+            let was : inode_at mid i ≡ inode_at old i = so_far.after i in' (omega (arith, at)) in
+            subst (λ (n : Inode). settled_inode n (get_or counts i 0) (holds_in mid n) ≡ n) read
+            (settled_has mid (inode_at mid i) (get_or counts i 0)
+            ∙ (λ z. settled_inode (was z) (get_or counts i 0) (so_far.has i in' (omega (arith, at)) z))
+            ∙ all i (sym (is_inode_mid i) ∙ in') at ∙ sym was)
+
     pub settle_step : SettledTo old new counts (s + 1)
     settle_step = record {
       files = settle_files;
@@ -125,6 +154,11 @@ module _ (old mid : Image) (counts : List ℕ) (s : ℕ) (weak : IsWeak (frame o
           (λ (e : inode_sector i ≡ s). here i in'' e (so_far.trimmed i in'' (omega arith)))
           (λ (ne : inode_sector i ≢ s). still_settled (frame mid) (frame new) i (get_or counts i 0) (other_head i ne) (other_address i ne) (so_far.settled i in'' (omega arith)))
           (cases_eq (inode_sector i) s);
+      kept = λ q past below all. ⊎_elim
+          (λ (e : q ≡ s). subst (λ p. sector_at new p ≡ sector_at old p) (sym e) (same_here (subst (AreSettledIn old counts) e all) ∙ so_far.rest s (inr (omega arith))))
+          (λ (ne : q ≢ s). other_sector q ne ∙ so_far.kept q past (omega arith) all)
+          (cases_eq q s);
+      rest = λ q out. other_sector q (λ e. not_here q e out) ∙ so_far.rest q (still_out q out);
     }
 
   -- at each moment the files are kept
@@ -137,7 +171,7 @@ module _ (old mid : Image) (counts : List ℕ) (s : ℕ) (weak : IsWeak (frame o
   settle_maps i one at = subst (MapStands mid) (read i in' ∙ ap (λ q. inode_here (sector_at mid q) i) at) (map_stands i)
     where
       in' : is_inode mid i ≡ true
-      in' = let h = high_mid in and_both (leb 1 i) (leb i (inodes_before (isize_of mid))) (leb_true 1 i one) (leb_true i (inodes_before (isize_of mid)) (omega (arith, one, at, h)))
+      in' = number_in i one at
 
       read : (i : ℕ) → is_inode mid i ≡ true → inode_at mid i ≡ inode_here (sector_at mid (inode_sector i)) i
       read i in' = inode_read mid i in'

@@ -57,7 +57,7 @@ unfolding settled_inode
 settled_kept n count stays e some = (λ z. cond (e z) n (cond (ne_eqb count 0 some z) (free_inode n.generation) (kept_inode n count stays)))
 
 -- a block of addresses that doesn't stay has none below the size
-none_listed : (image : Image) (n : Inode) (k : ℕ) → holds_in image n ≡ false → 10 ≤ k → k < 138 → k < sectors_of n.size → listed image n.single (k - 10) ≡ 0
+pub none_listed : (image : Image) (n : Inode) (k : ℕ) → holds_in image n ≡ false → 10 ≤ k → k < 138 → k < sectors_of n.size → listed image n.single (k - 10) ≡ 0
 unfolding holds_in entry
 none_listed image n k none ge lt below = ⊎_elim
     (λ (z : n.single ≡ 0). ap (λ b. cond b 0 (field (sector_at image n.single) (4 * (k - 10)) 4)) (eq-eqb n.single 0 z))

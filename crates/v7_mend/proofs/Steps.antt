@@ -1,10 +1,6 @@
 -- Calls of a repair, one after the other.
-use Rattle.std.proofs.Common.{◌≡◌, ◌≢◌, inl, inr, ℕ, ◌+◌, ◌≤◌, List, set, sym, ap, subst, ◌∙◌, arith}
-use Rattle.stable.specs.States.{StaysOrFails, IsDeviceError, ArePuts}
-use Rattle.stable.specs.declared.state.State.{State}
-use Rattle.stable.specs.declared.state.State.TheVariants.{Up}
+use Rattle.std.proofs.Common.{◌≡◌, inl, inr, ℕ, List, set, ap, ◌∙◌}
 use Rattle.stable.specs.Store.{Image, SectorPut}
-use Rattle.stable.specs.declared.snapshot.Snapshot.{Snapshot}
 use Rattle.v7_mend.specs.Settles.{SettledBytes, MaySettle}
 use Rattle.v7_mend.specs.Trims.{Either}
 

@@ -1,6 +1,7 @@
 -- One more block of addresses is trimmed.
-use Rattle.std.proofs.Common.{◌≡◌, ◌≢◌, inl, inr, ℕ, zero, suc, ◌+◌, ◌*◌, ◌-◌, ◌<◌, ◌≤◌, true, false, List, [], length, get_or, refl, sym, ap, subst, ◌∙◌, arith, ⊎_elim, leb}
+use Rattle.std.proofs.Common.{◌≡◌, ◌≢◌, inl, inr, ℕ, zero, suc, ◌+◌, ◌<◌, ◌≤◌, true, false, List, [], length, get_or, refl, sym, ap, subst, ◌∙◌, arith, ⊎_elim, leb, cond, set, get_or-set_other}
 use Rattle.std.proofs.lemmas.Bool.{cases_eq, cases_lt, cases_Bool}
+use Rattle.std.proofs.lemmas.List.{set-get_or}
 use Rattle.v7_layout.specs.declared.inode.Inode.{Inode}
 use Rattle.v7_layout.specs.Numbers.{field}
 use Rattle.files_model.specs.Files.{sectors_of}
@@ -12,7 +13,8 @@ use Rattle.v7_map.proofs.Data.{same_inode}
 use Rattle.v7_map.proofs.Walks.{and_both}
 use Rattle.v7_mend.specs.Changes.{PutsSome, Differ, IsMapIn, IsDataBlock}
 use Rattle.v7_mend.specs.Keeps.{KeepsFiles}
-use Rattle.v7_mend.specs.Trims.{Either, has_map, trimmed_at, IsTrimmed, Trims, AreTrimmed, first_in}
+use Rattle.v7_mend.specs.Trims.{Either, has_map, trimmed_at, IsTrimmed, IsTrimmedIn, AreTrimmed, first_in}
+use Rattle.v7_mend.specs.Settled.{trimmed}
 use Rattle.v7_mend.proofs.KeptFrames.{keeps-weak}
 use Rattle.v7_mend.proofs.KeptFiles.{keeps_same, keeps_then}
 use Rattle.v7_mend.proofs.Differing.{differ_none, differ_put, differ_then, differ_wider}
@@ -21,7 +23,7 @@ use Rattle.v7_mend.proofs.Trimming.{trims, address_single}
 
 -- before the first
 pub trimmed_none : (image : Image) (links : List ℕ) (n : ℕ) → AreTrimmed image image links n n
-trimmed_none image links n = record { files = keeps_same image; sectors = λ s lt. refl; has = λ j l. refl; still = λ j was. was; trimmed = λ i low high. absurd (omega arith) }
+trimmed_none image links n = record { files = keeps_same image; sectors = λ s lt. refl; has = λ j l. refl; still = λ j was. was; trimmed = λ i low high. absurd (omega arith); kept = λ s all. refl }
 
 -- a number of a sector of the i-list is one of the image's inodes
 pub number_of : (image : Image) (sector i : ℕ) → 2 ≤ sector → sector < isize_of image → first_in sector ≤ i → i < first_in sector + 8 → is_inode image i ≡ true
@@ -51,7 +53,25 @@ trimmed_then old mid new links a b c weak x y = record {
   has = λ j l. y.has j l ∙ x.has j l;
   still = λ j was. y.still j (x.still j was);
   trimmed = λ i low high. ⊎_elim (λ (lt : i < b). y.still i (x.trimmed i low lt)) (λ (ge : b ≤ i). y.trimmed i ge high) (cases_lt i b);
+  kept = λ s all.
+      let e : sector_at mid s ≡ sector_at old s = x.kept s all in
+      let inodes = inodes_stay old mid x.files.first x.sectors in
+      y.kept s (λ i has at. (λ z. trimmed (e z) (sectors_of (inodes i z).size)) ∙ all i (sym (x.has i (get_or links i 0)) ∙ has) (ap (λ (n : Inode). n.single) (sym (inodes i)) ∙ at) ∙ sym e) ∙ e;
 }
+
+-- a block of addresses with none past the size stays
+kept_one : (mid : Image) (links : List ℕ) (i s : ℕ) → IsTrimmedIn mid links s → sector_at (trimmed_at mid i (get_or links i 0)) s ≡ sector_at mid s
+unfolding trimmed_at
+kept_one mid links i s all = ⊎_elim
+    (λ (has : has_map mid (inode_at mid i) (get_or links i 0) ≡ true).
+    ap (λ b. sector_at (cond b (set mid (inode_at mid i).single (trimmed (sector_at mid (inode_at mid i).single) (sectors_of (inode_at mid i).size))) mid) s) has
+    ∙ ⊎_elim
+    (λ (e : s ≡ (inode_at mid i).single).
+    ap (λ x. sector_at x s) ((λ z. set mid (sym e z) (trimmed (sector_at mid (sym e z)) (sectors_of (inode_at mid i).size))) ∙ ap (set mid s) (all i has (sym e)) ∙ set-get_or mid s []))
+    (λ (ne : s ≢ (inode_at mid i).single). get_or-set_other mid (inode_at mid i).single s (trimmed (sector_at mid (inode_at mid i).single) (sectors_of (inode_at mid i).size)) [] ne)
+    (cases_eq s (inode_at mid i).single))
+    (λ (none : has_map mid (inode_at mid i) (get_or links i 0) ≡ false). ap (λ x. sector_at x s) (trimmed_is_same mid i (get_or links i 0) none))
+    (cases_Bool (has_map mid (inode_at mid i) (get_or links i 0)))
 
 -- one block
 pub trimmed_one : (mid : Image) (links : List ℕ) (i : ℕ) → IsWeak (frame mid) → ((s : ℕ) → s < length mid → length (sector_at mid s) ≡ 512) → AreTrimmed mid (trimmed_at mid i (get_or links i 0)) links i (i + 1)
@@ -65,6 +85,7 @@ trimmed_one mid links i weak long = let t = trims mid i (get_or links i 0) weak 
       t.others j ne (Body k) ∙ was (sym (t.has j (get_or links j 0)) ∙ has) k ten (subst (λ (n : Inode). sectors_of n.size ≤ k) (inodes_stay mid _ t.files.first t.sectors j) past))
       (cases_eq j i);
   trimmed = λ j low high. let e : j ≡ i = omega arith in subst (λ q. IsTrimmed (trimmed_at mid i (get_or links i 0)) q (get_or links q 0)) (sym e) t.here;
+  kept = kept_one mid links i;
 }
 
 module _ (old mid : Image) (links : List ℕ) (from i : ℕ) (weak : IsWeak (frame old)) (so_far : AreTrimmed old mid links from i) (long : (s : ℕ) → s < length mid → length (sector_at mid s) ≡ 512) where

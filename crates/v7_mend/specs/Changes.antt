@@ -32,6 +32,10 @@ IsDataBlock image s = isize_of image ≤ s
 abbrev pub IsMapIn : Image → ℕ → ℕ → ℕ → Type 0
 IsMapIn image from to s = (j : ℕ) × (from ≤ j) × (j < to) × (s ≢ 0) × ((frame image).address j Single ≡ s)
 
+-- a sector of inodes, where the list of them ends at this block
+abbrev pub HasInodes : ℕ → ℕ → Type 0
+HasInodes isize s = (2 ≤ s) × (s < isize)
+
 -- a sector that a repair may change: one of inodes, or the block of addresses of an inode
 abbrev pub MayChange : Image → ℕ → Type 0
-MayChange image s = (s < isize_of image) ⊎ ((j : ℕ) × (s ≢ 0) × ((frame image).address j Single ≡ s))
+MayChange image s = HasInodes (isize_of image) s ⊎ ((j : ℕ) × (s ≢ 0) × ((frame image).address j Single ≡ s))

@@ -18,10 +18,15 @@ inode_here bytes i = inode_of (part bytes (inode_offset i) 64)
 abbrev pub settled_here : Image → List ℕ → List ℕ → ℕ → Inode
 settled_here image bytes links i = settled_inode (inode_here bytes i) (get_or links i 0) (holds_in image (inode_here bytes i))
 
+-- the inodes in the bytes of a sector have nothing to mend
+abbrev pub AreSettledHere : Image → List ℕ → ℕ → List ℕ → Type 0
+AreSettledHere image bytes sector links = (i : ℕ) → 1 ≤ i → inode_sector i ≡ sector → settled_here image bytes links i ≡ inode_here bytes i
+
 -- The bytes are those of a sector of inodes after a repair.
 pub record SettledBytes (image : Image) (sector : ℕ) (links bytes : List ℕ) : Type 0 where
   pub long : length bytes ≡ 512
   pub each : (i : ℕ) → 1 ≤ i → inode_sector i ≡ sector → inode_here bytes i ≡ settled_here image (sector_at image sector) links i
+  pub same : AreSettledHere image (sector_at image sector) sector links → bytes ≡ sector_at image sector
 
 -- One sector of inodes is put as it is after a repair.
 pub record Settles (old new : Image) (sector : ℕ) (links : List ℕ) : Type 0 where
@@ -58,4 +63,5 @@ MaySettle old sector links image = (image ≡ old) ⊎ Settles old image sector 
 -- a sector in which inode i is that one, and each other is as it was
 pub record SetsInode (sector : List ℕ) (i : ℕ) (n : Inode) (result : List ℕ) : Type 0 where
   pub here : inode_here result i ≡ n
+  pub same : n ≡ inode_here sector i → result ≡ sector
   pub others : (j : ℕ) → 1 ≤ j → inode_sector j ≡ inode_sector i → j ≢ i → inode_here result j ≡ inode_here sector j

@@ -42,6 +42,10 @@ pub record Trims (old new : Image) (i links : ℕ) : Type 0 where
   pub has : (j : ℕ) (l : ℕ) → has_map new (inode_at new j) l ≡ has_map old (inode_at old j) l
   pub here : IsTrimmed new i links
 
+-- what stands in this sector, if it is a block of addresses that is to stay, has none past its file's size
+abbrev pub IsTrimmedIn : Image → List ℕ → ℕ → Type 0
+IsTrimmedIn image links s = (i : ℕ) → has_map image (inode_at image i) (get_or links i 0) ≡ true → (inode_at image i).single ≡ s → trimmed (sector_at image s) (sectors_of (inode_at image i).size) ≡ sector_at image s
+
 -- Where the blocks of addresses that are to stay are trimmed, of the inodes from one number up to another; `links` tells how many slots name each.
 pub record AreTrimmed (old new : Image) (links : List ℕ) (from to : ℕ) : Type 0 where
   pub files : KeepsFiles old new
@@ -49,6 +53,7 @@ pub record AreTrimmed (old new : Image) (links : List ℕ) (from to : ℕ) : Typ
   pub has : (j l : ℕ) → has_map new (inode_at new j) l ≡ has_map old (inode_at old j) l
   pub still : (j : ℕ) → IsTrimmed old j (get_or links j 0) → IsTrimmed new j (get_or links j 0)
   pub trimmed : (i : ℕ) → from ≤ i → i < to → IsTrimmed new i (get_or links i 0)
+  pub kept : (s : ℕ) → IsTrimmedIn old links s → sector_at new s ≡ sector_at old s
 
 -- the first inode of a sector
 abbrev pub first_in : ℕ → ℕ

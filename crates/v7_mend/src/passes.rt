@@ -2,7 +2,7 @@
 
 ghost use Rattle.std.specs.Prelude.{◌-◌, ◌*◌, IfOk, OnOk};
 ghost use Rattle.v7_mend.specs.Changes.{Differ, MayChange};
-ghost use Rattle.v7_mend.specs.Keeps.{SameFiles};
+ghost use Rattle.v7_mend.specs.Keeps.{KeepsVolume};
 ghost use Rattle.v7_mend.specs.Repairs.{CanMend, HasLinks, IsMended};
 ghost use Rattle.v7_mend.specs.Runs.{CountsPuts};
 
@@ -21,7 +21,7 @@ pub fn mend<S: Stable>(store: &mut S, isize: u32, links: &[u16]) -> Result<u32, 
     requires found { S.tells → CanMend (S.image store.old) isize links.now }
     ensures mended { S.tells → OnOk result (IsMended (S.image store.old) (S.image store.new) links.now) }
     ensures exact { S.tells → IfOk result (λ changed. Differ (MayChange (S.image store.old)) (S.image store.old) (S.image store.new) changed) }
-    ensures puts { CountsPuts S.Stable (SameFiles (S.image store.old)) (9 * (isize - 2)) store.old store.new result }
+    ensures puts { CountsPuts S.Stable (KeepsVolume (S.image store.old)) (9 * (isize - 2)) store.old store.new result }
 {
     let trimmed = trim_all(store, isize, links)?;
     let settled = settle_all(store, isize, links)?;

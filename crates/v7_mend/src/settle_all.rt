@@ -4,7 +4,7 @@ ghost use Rattle.std.specs.Prelude.{◌≡◌, ◌≤◌, ◌<◌, ◌+◌, ◌-
 ghost use Rattle.v7_map.specs.Frame.{frame};
 ghost use Rattle.v7_map.specs.Image.{isize_of};
 ghost use Rattle.v7_map.specs.Weak.{IsWeak};
-ghost use Rattle.v7_mend.specs.Changes.{Differ};
+ghost use Rattle.v7_mend.specs.Changes.{Differ, HasInodes};
 ghost use Rattle.v7_mend.specs.Keeps.{KeepsFiles};
 ghost use Rattle.v7_mend.specs.Repairs.{AreLinks, SettledTo};
 ghost use Rattle.v7_mend.specs.Runs.{CountsPuts};
@@ -23,7 +23,7 @@ pub fn settle_all<S: Stable>(store: &mut S, isize: u32, links: &[u16]) -> Result
     requires weak { S.tells → IsWeak (frame (S.image store.old)) }
     requires trimmed { S.tells → SettledTo (S.image store.old) (S.image store.old) links.now 2 }
     ensures done { S.tells → OnOk result (SettledTo (S.image store.old) (S.image store.new) links.now isize) }
-    ensures exact { S.tells → IfOk result (λ count. Differ (λ s. s < isize) (S.image store.old) (S.image store.new) count) }
+    ensures exact { S.tells → IfOk result (λ count. Differ (HasInodes isize) (S.image store.old) (S.image store.new) count) }
     ensures puts { CountsPuts S.Stable (KeepsFiles (S.image store.old)) (isize - 2) store.old store.new result }
 {
     let mut changed = 0;

@@ -1,12 +1,10 @@
-use Rattle.std.proofs.Common.{rules, arith, ◌≤◌, ◌<◌, ◌+◌, ◌-◌, ◌*◌, ◌≡◌, sym, subst}
-use Rattle.v7_map.specs.Image.{isize_of}
+use Rattle.std.proofs.Common.{arith, ◌+◌, ◌-◌, ◌*◌, ◌≡◌, subst}
 use Rattle.v7_mend.specs.Changes.{Differ, IsMapIn}
-use Rattle.v7_mend.specs.Keeps.{KeepsFiles}
 use Rattle.v7_mend.specs.Trims.{AreTrimmed, first_in}
 use Rattle.v7_mend.proofs.KeptFrames.{keeps-weak}
 use Rattle.v7_mend.proofs.KeptFiles.{keeps_then}
-use Rattle.v7_mend.proofs.Running.{answers, answered, few_answered, fails, puts_then}
-use Rattle.v7_mend.proofs.TrimSteps.{trimmed_exact, trimmed_then, isize_stays}
+use Rattle.v7_mend.proofs.Running.{answered, few_answered, fails, puts_then}
+use Rattle.v7_mend.proofs.TrimSteps.{trimmed_exact, trimmed_then}
 use Rattle.v7_mend.proofs.trim_all.trim_all.Goals as goal
 
 pub trim_sector-requires-clause-weak : goal.trim_sector-requires-clause-weak

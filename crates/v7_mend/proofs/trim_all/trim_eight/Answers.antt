@@ -1,4 +1,4 @@
-use Rattle.std.proofs.Common.{rules, arith, ◌≤◌, ◌<◌, ◌+◌, ◌≡◌, sym, subst}
+use Rattle.std.proofs.Common.{rules, arith, ◌<◌, ◌+◌, ◌≡◌, sym, subst}
 use Rattle.v7_mend.specs.Trims.{AreTrimmed, first_in}
 use Rattle.v7_mend.proofs.KeptFrames.{keeps-weak}
 use Rattle.v7_mend.proofs.Running.{answers, answered, few_answered, fails, puts_then}

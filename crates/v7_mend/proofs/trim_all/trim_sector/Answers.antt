@@ -1,4 +1,3 @@
-use Rattle.std.proofs.Common.{arith, subst, sym}
 use Rattle.v7_mend.proofs.KeptFiles.{keeps_same}
 use Rattle.v7_mend.proofs.Running.{look_fails}
 use Rattle.v7_mend.proofs.trim_all.trim_sector.Goals as goal
