@@ -4,7 +4,7 @@ ghost use Rattle.std.specs.Prelude.{◌≡◌, length, IfOk};
 ghost use Rattle.v7_layout.specs.Written.{AddressesFit};
 
 use crate::mend;
-use stable::{Failed, NoMemory};
+use stable::{Failed, NoMemory, Stable};
 use std::alloc::Global;
 use std::test::Fail;
 use store_mem::Memory;
@@ -314,5 +314,92 @@ fn a_mend_that_fails_is_gone_on_with(rt: HostRuntime) -> Result<(), Fail> {
             "put {failing} fails"
         );
     }
+    Ok(())
+}
+
+/// A store in memory that counts how often each sector was read.
+#[derive(Drop)]
+pub struct Counting {
+    store: Memory,
+    reads: [u32; 64],
+}
+
+impl Stable for Counting {
+    ghost use Rattle.std.specs.Prelude.{[], length};
+    ghost use Rattle.std.proofs.Common.{refl};
+    ghost use Rattle.stable.specs.declared.battery.Battery.TheVariants as battery;
+    ghost use Rattle.stable.specs.declared.state.State.TheVariants as state;
+
+    ghost tells = { ⊥ };
+
+    ghost image = { λ s. [] };
+
+    ghost moment = { λ s. 0 };
+
+    ghost left_since = { λ s t i. ⊥ };
+
+    ghost opens_since = { λ s t. ⊥ };
+
+    ghost sector_count = { λ s. length s.store.sectors.items };
+
+    ghost faults = { λ s. s.store.faults };
+
+    ghost snapshot_of = { λ s. record { state = state.Down; dirty = 0; battery = battery.Low; puts = s.store.puts; polls = s.store.polls; ups = s.store.ups; tries = 0 } };
+
+    ghost clocked = { record {
+      now = λ s t told le. told;
+      only = λ s d left. absurd left;
+      wider = λ s t u d le left. left;
+      told = λ s t d left. left;
+    } };
+
+    ghost shape = { λ s t i left. absurd left };
+
+    ghost opens_later = { λ s t u le opens. opens };
+
+    ghost counted = { λ s. s.store.counted };
+
+    ghost down = { λ s down. refl };
+
+    fn sectors(&self) -> u32 {
+        self.store.sectors()
+    }
+
+    fn get(&mut self, sector: u32, into: &mut [u8; 512]) -> Result<(), Failed> {
+        if sector < 64 {
+            self.reads[sector as usize] = self.reads[sector as usize].saturating_add(1);
+        }
+        self.store.get(sector, into)
+    }
+
+    fn put(&mut self, sector: u32, bytes: &[u8; 512]) -> Result<(), Failed> {
+        self.store.put(sector, bytes)
+    }
+}
+
+#[test]
+fn each_sector_is_read_at_most_twice(rt: HostRuntime) -> Result<(), Fail> {
+    let long = Inode {
+        size: 6000,
+        single: 10,
+        ..file()
+    };
+    let shape = Shape {
+        inodes: inodes(&long, &free()),
+        last: last_inode(0o100_600, 7),
+        block: listing(&[8, 0, 9]),
+    };
+    let store = volume(rt.alloc(), &shape).map_err(|_| "memory")?;
+    let mut counting = Counting {
+        store,
+        reads: [0; 64],
+    };
+    assert!(rt; mend(&mut counting, 4, &LINKS) == Ok(2));
+    assert!(rt; counting.store.order.starts_with(&[10, 3]));
+    let mut wanted = [0; 64];
+    wanted[2] = 2;
+    wanted[3] = 2;
+    wanted[10] = 2;
+    assert!(rt; counting.reads == wanted);
     Ok(())
 }
