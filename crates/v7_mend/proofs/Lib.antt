@@ -1,4 +1,4 @@
-mod Running
+pub mod Running
 mod Entries
 mod Trees
 mod KeptFrames
