@@ -1,10 +1,10 @@
 -- Counted puts, one run after the other.
 use Rattle.std.proofs.Common.{◌≡◌, ℕ, ◌+◌, ◌^◌, ◌<◌, ◌≤◌, Result, Ok, Err, IfOk, OnErr, refl, sym, subst, ◌∙◌, arith}
 use Rattle.std.specs.Result.{IsErr}
-use Rattle.stable.specs.Counts.{Rose}
+use Rattle.stable.specs.Counts.{HasCause, Rose}
 use Rattle.stable.specs.Looked.{Looked}
 use Rattle.stable.specs.Moments.{IsClocked}
-use Rattle.stable.specs.States.{ArePuts}
+use Rattle.stable.specs.States.{ArePuts, SomePuts}
 use Rattle.stable.specs.Store.{Image}
 use Rattle.stable.specs.declared.store.Stable.{Ghosts}
 use Rattle.stable.proofs.Clocked.{goes_on, weaker}
@@ -63,6 +63,14 @@ module _ {S : Type 0} (s : Ghosts S) where
     answer = none_answered result (n + b.count) failed;
     cause = rose_failed result (s.faults old) (s.faults mid) (s.faults new) a.later b.cause;
   }
+
+  -- so many puts at most, whatever is answered
+  pub some_puts : {E : Type 0} {P : Image → Type 0} {most : ℕ} {old new : S} {result : Result ℕ E} → CountsPuts s P most old new result → SomePuts most (s.faults old) (s.faults new) (s.snapshot_of old) (s.snapshot_of new)
+  some_puts c = record { count = c.count; few = c.few; made = c.puts.snapshot }
+
+  -- and a failure has a cause
+  pub has_cause : {E : Type 0} {P : Image → Type 0} {most : ℕ} {old new : S} {result : Result ℕ E} → CountsPuts s P most old new result → HasCause (s.faults old) (s.faults new) result
+  has_cause c = record { later = c.puts.later; failed = c.cause }
 
   -- a run of which more could be, and less is claimed
   pub counts_weaker : {E : Type 0} {P Q : Image → Type 0} {most : ℕ} {old new : S} {result : Result ℕ E} → CountsPuts s P most old new result
