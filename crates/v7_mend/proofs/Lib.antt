@@ -14,5 +14,6 @@ mod Updating
 mod SettleSteps
 mod Zeros
 mod Needed
+pub mod Held
 mod Mending
 mod Differing

@@ -26,7 +26,7 @@ use Rattle.v7_mend.proofs.Settling.{length_direct, settled_free, settled_kept, u
 use Rattle.v7_mend.proofs.Trimming.{address_listed, address_single}
 use Rattle.v7_mend.proofs.Zeros.{direct_stays, block_stays}
 
-clash : (b : Bool) → b ≡ true → not b ≡ true → ⊥
+pub clash : (b : Bool) → b ≡ true → not b ≡ true → ⊥
 clash true t u = absurd (cc)
 clash false t u = absurd (cc)
 
@@ -63,10 +63,10 @@ shown : (image : Image) (i : ℕ) → is_named (tree (frame image)) i ≡ true �
 unfolding view files_of
 shown image i named within = get-tabulated _ ((tree (frame image)).inodes + 1) i within ∙ ap (λ b. cond b (Some (node_at image i)) None) named
 
-in_volume : (image : Image) (i : ℕ) → ((frame image).head i).is_used ≡ true → i < (tree (frame image)).inodes + 1
+pub in_volume : (image : Image) (i : ℕ) → ((frame image).head i).is_used ≡ true → i < (tree (frame image)).inodes + 1
 in_volume image i used = let r = (frame-IsFrame image).numbers i used in let high = r.1 in omega arith
 
-size_in_head : (image : Image) (i : ℕ) → ((frame image).head i).size ≡ (inode_at image i).size
+pub size_in_head : (image : Image) (i : ℕ) → ((frame image).head i).size ≡ (inode_at image i).size
 unfolding frame
 size_in_head image i = refl
 
@@ -94,7 +94,7 @@ module _ (old other : Image) (weak : IsWeak (frame old)) (r : Repairs old other)
   named_there : (i : ℕ) → is_named (tree (frame old)) i ≡ true → i < (tree (frame old)).inodes + 1 → StandsAs other i (node_at old i)
   named_there i named within = view-node other i (node_at old i) (ap (λ (f : Files). get f.nodes i) r.view ∙ shown old i named within)
 
-  named_here : (i : ℕ) → is_named (tree (frame other)) i ≡ true → i < (tree (frame other)).inodes + 1 → StandsAs old i (node_at other i)
+  pub named_here : (i : ℕ) → is_named (tree (frame other)) i ≡ true → i < (tree (frame other)).inodes + 1 → StandsAs old i (node_at other i)
   named_here i named within = view-node old i (node_at other i) (ap (λ (f : Files). get f.nodes i) (sym r.view) ∙ shown other i named within)
 
   module _ (i : ℕ) (same : inode_at other i ≡ inode_at old i) (mode : ((inode_at old i).mode == 0) ≡ false) where

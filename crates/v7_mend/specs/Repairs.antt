@@ -4,7 +4,7 @@ use Rattle.files_model.specs.Files.{sectors_of}
 use Rattle.stable.specs.Store.{Image}
 use Rattle.v7_layout.specs.declared.inode.Inode.{Inode}
 use Rattle.v7_map.specs.Image.{sector_at, isize_of, is_inode, inode_at, inode_sector}
-use Rattle.v7_map.specs.Frame.{Place, Body, frame}
+use Rattle.v7_map.specs.Frame.{Place, Body, Single, Double, frame}
 use Rattle.v7_map.specs.Tree.{tree, is_named, links as count_links}
 use Rattle.v7_map.specs.Weak.{IsWeak, IsStrong}
 use Rattle.v7_map.specs.View.{view}
@@ -65,3 +65,9 @@ pub record IsMended (old new : Image) (counts : List ℕ) : Type 0 where
   pub repairs : Repairs old new
   pub inodes : AreSettled old new counts
   pub needed : (other : Image) → Repairs old other → (s : ℕ) → sector_at new s ≢ sector_at old s → sector_at other s ≢ sector_at old s
+
+-- The block at this place of inode i is one that a repair leaves there: the inode has a name, and the block holds what is below its size, or the address of such a one.
+abbrev pub IsNeeded : Image → ℕ → Place → Type 0
+IsNeeded image i (Body k) = (is_named (tree (frame image)) i ≡ true) × (k < sectors_of (inode_at image i).size)
+IsNeeded image i Single = (is_named (tree (frame image)) i ≡ true) × ((k : ℕ) × (10 ≤ k) × (k < sectors_of (inode_at image i).size) × ((frame image).address i (Body k) ≢ 0))
+IsNeeded image i Double = ⊥
