@@ -6,7 +6,7 @@ use Rattle.stable.specs.States.{ArePuts}
 use Rattle.stable.specs.Store.{Image, StaysOpenable}
 use Rattle.stable.specs.declared.store.Stable.{Ghosts}
 
--- Exactly so many sectors past the super-block were put, and at each moment the image has P.
+-- Exactly so many puts were made. At each moment the image has P, and what could be opened again after a crash still can.
 pub record HasPut {S : Type 0} (s : Ghosts S) (P : Image → Type 0) (count : ℕ) (old new : S) : Type 0 where
   pub crash : LeavesOnly s.moment s.left_since old new P
   pub opens : StaysOpenable s.opens_since s.moment old new
@@ -14,7 +14,7 @@ pub record HasPut {S : Type 0} (s : Ghosts S) (P : Image → Type 0) (count : �
   pub sectors : s.sector_count new ≡ s.sector_count old
   pub snapshot : ArePuts count (s.faults old) (s.faults new) (s.snapshot_of old) (s.snapshot_of new)
 
--- Some sectors past the super-block were put, at most so many: after Ok as many as it answers. At each moment the image has P, and a failure has a cause.
+-- At most so many puts were made, after Ok as many as it answers; at each moment the image has P, and a failure has a cause.
 pub record CountsPuts {S E : Type 0} (s : Ghosts S) (P : Image → Type 0) (most : ℕ) (old new : S) (result : Result ℕ E) : Type 0 where
   pub count : ℕ
   pub few : count ≤ most
