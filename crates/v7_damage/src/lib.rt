@@ -1,0 +1,13 @@
+//! Damage of a volume: the first test that fails, or what the tests have found out.
+#![tactic(auto)]
+
+mod bodies;
+mod damage;
+mod inodes;
+mod marks;
+mod places;
+mod reader;
+
+pub use damage::{Damage, RepairFault};
+pub use marks::Marks;
+pub use reader::InodeReader;
