@@ -4,3 +4,4 @@ pub mod InodeTests
 pub mod FrameInodes
 pub mod SlotSectors
 pub mod BodyPlaces
+pub mod ReadSlots

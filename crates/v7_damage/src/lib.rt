@@ -7,6 +7,7 @@ mod inodes;
 mod marks;
 mod places;
 mod reader;
+mod slots;
 
 pub use damage::{Damage, RepairFault};
 pub use marks::Marks;
