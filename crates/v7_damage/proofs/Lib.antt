@@ -5,3 +5,5 @@ pub mod FrameInodes
 pub mod SlotSectors
 pub mod BodyPlaces
 pub mod ReadSlots
+pub mod Walking
+pub mod WalkSteps

@@ -2,3 +2,4 @@ pub mod Marks
 pub mod Stored
 pub mod Tests
 pub mod Slots
+pub mod Walk

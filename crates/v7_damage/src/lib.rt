@@ -8,6 +8,7 @@ mod marks;
 mod places;
 mod reader;
 mod slots;
+mod walk;
 
 pub use damage::{Damage, RepairFault};
 pub use marks::Marks;
