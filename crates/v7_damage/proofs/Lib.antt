@@ -7,3 +7,10 @@ pub mod BodyPlaces
 pub mod ReadSlots
 pub mod Walking
 pub mod WalkSteps
+pub mod Naming
+pub mod SlotTests
+pub mod HeldSteps
+pub mod DirectoryTests
+pub mod Supers
+pub mod Passed
+pub mod Noting

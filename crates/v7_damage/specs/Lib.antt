@@ -3,3 +3,4 @@ pub mod Stored
 pub mod Tests
 pub mod Slots
 pub mod Walk
+pub mod Names

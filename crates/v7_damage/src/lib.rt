@@ -5,6 +5,8 @@ mod bodies;
 mod damage;
 mod inodes;
 mod marks;
+mod names;
+mod parents;
 mod places;
 mod reader;
 mod slots;

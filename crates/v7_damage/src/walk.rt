@@ -30,6 +30,13 @@ const MOST_SLOTS: usize = 4416;
 /// The type of a directory in the four highest bits of a mode.
 const DIRECTORY: u8 = 4;
 
+/// The walked directories, and where `..` of each leads, by i-number.
+#[derive(Drop)]
+pub(crate) struct Walks {
+    pub(crate) found: Marks,
+    pub(crate) ups: Vec<u16>,
+}
+
 // Puts one number at the end of the list, if it is that of a directory that isn't there yet.
 fn find_one(
     ino: u16,
@@ -56,8 +63,8 @@ fn find_one(
     Ok(())
 }
 
-/// Puts the directories that these slots name at the end of the list, but those that are there already.
-pub(crate) fn find_named(
+// Puts the directories that these slots name at the end of the list, but those that are there already.
+fn find_named(
     slots: &[Slot],
     types: &[u8],
     found: &mut Marks,
