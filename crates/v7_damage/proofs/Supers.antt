@@ -1,11 +1,12 @@
 -- The test of the super-block, and what its numbers say.
-use Rattle.std.proofs.Common.{◌≡◌, ℕ, ◌<◌, Bool, true, false, List, [], ◌∷◌, length, sym, ap, ◌∙◌, arith, ⊎_elim, Some, None}
+use Rattle.std.proofs.Common.{◌≡◌, ◌==◌, ℕ, ◌<◌, ◌≤◌, leb, ltb, Bool, true, false, List, [], ◌∷◌, length, sym, ap, ◌∙◌, arith, ⊎_elim, Some, None}
 use Rattle.std.specs.Prelude.{replicate}
-use Rattle.std.proofs.lemmas.Bool.{cases_Bool}
+use Rattle.std.proofs.lemmas.Bool.{cases_Bool, leb-true, ltb-true}
+use Rattle.v7_map.proofs.Frames.{and_left, and_right}
 use Rattle.stable.specs.Store.{Image}
 use Rattle.v7_layout.specs.declared.super_block.Super.{Super}
 use Rattle.v7_layout.specs.Records.{super_of}
-use Rattle.v7_map.specs.Image.{sector_at, inodes_before}
+use Rattle.v7_map.specs.Image.{sector_at, inode_sector, inodes_before}
 use Rattle.v7_map.specs.Frame.{Frame, frame}
 use Rattle.v7_map.specs.Tree.{tree}
 use Rattle.v7_map.specs.Damage.{Test, Sizes, passes, has_sizes}
@@ -57,3 +58,13 @@ pub told_same : (f : Frame) (ts all : List Test) (e : RepairFault) → first_fai
 told_same f ts all (Damaged sector which) same is = ap (told f) same ∙ is
 told_same f ts all Failed same is = tt
 told_same f ts all NoMemory same is = tt
+
+-- each inode stands in a sector of the store
+pub sector_stands : (mark isize fsize sectors inodes i : ℕ) → has_sizes mark isize fsize sectors ≡ true → inodes ≡ inodes_before isize → i ≤ inodes → inode_sector i < sectors
+sector_stands mark isize fsize sectors inodes i sizes is le =
+    let a = and_right (mark == 1) _ sizes in
+    let low = leb-true 3 isize (and_left (leb 3 isize) _ a) in
+    let b = and_right (leb isize 8193) _ (and_right (leb 3 isize) _ a) in
+    let above = ltb-true isize fsize (and_left (ltb isize fsize) _ b) in
+    let within = leb-true fsize sectors (and_left (leb fsize sectors) _ (and_right (ltb isize fsize) _ b)) in
+    omega arith

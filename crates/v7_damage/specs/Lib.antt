@@ -4,3 +4,4 @@ pub mod Tests
 pub mod Slots
 pub mod Walk
 pub mod Names
+pub mod Listed

@@ -4,6 +4,7 @@
 mod bodies;
 mod damage;
 mod inodes;
+mod listed;
 mod marks;
 mod names;
 mod parents;
