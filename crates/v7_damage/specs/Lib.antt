@@ -5,3 +5,4 @@ pub mod Slots
 pub mod Walk
 pub mod Names
 pub mod Listed
+pub mod Noted

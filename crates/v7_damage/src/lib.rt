@@ -7,6 +7,7 @@ mod inodes;
 mod listed;
 mod marks;
 mod names;
+mod noted;
 mod parents;
 mod places;
 mod reader;
