@@ -14,3 +14,4 @@ pub mod DirectoryTests
 pub mod Supers
 pub mod Passed
 pub mod Noting
+pub mod Deciding

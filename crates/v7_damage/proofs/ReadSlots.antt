@@ -1,6 +1,7 @@
 -- The slots of a directory are those that the frame has.
 use Rattle.std.proofs.Common.{◌≡◌, ℕ, zero, suc, ◌+◌, ◌*◌, ◌/◌, ◌%◌, ◌<◌, ◌≤◌, cond, List, [], ◌∷◌, map, length, sym, ap, subst, refl, ◌∙◌, arith}
 use Rattle.std.specs.List.{range_with_len}
+use Rattle.std.proofs.lemmas.List.FromFn.{length-map-range_with_len}
 use Rattle.stable.specs.Store.{Image}
 use Rattle.v7_layout.specs.Numbers.{part}
 use Rattle.v7_layout.specs.Records.{slot_of_bytes}
@@ -44,3 +45,11 @@ module _ (image : Image) (bodies : Bodies) (i : ℕ) (can : CanRead image bodies
   slots_seen =
       map_fused seen_slot (slot_in_body image (block_kept bodies i)) (slot_in image (head_of (inode_at image i))) 0 (count_kept bodies i) (λ k lt. each k (omega arith))
       ∙ ap (λ m. map (slot_in image (head_of (inode_at image i))) (range_with_len 0 m)) count-is ∙ sym slots-are
+
+  -- the block where a slot stands
+  pub slot-block : (k : ℕ) → k < length ((frame image).slots i) → block_kept bodies i (k / 32) ≡ (frame image).address i (Body (k / 32))
+  unfolding frame
+  slot-block k lt =
+      let long = ap length slots-are ∙ length-map-range_with_len (slot_in image (head_of (inode_at image i))) 0 ((inode_at image i).size / 16) in
+      let count = count-is in
+      block-is (k / 32) (omega arith)

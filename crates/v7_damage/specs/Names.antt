@@ -77,6 +77,14 @@ pub record HasTested (f : Frame) (types : List ℕ) (kept : Kept) (d : ℕ) : Ty
   pub counted : kept.wrong ≡ None → HasKept f types kept.counts.items kept.named d 0
   pub failed : (wrong : WrongSlot) → kept.wrong ≡ Some wrong → IsWrong f d wrong
 
+-- directory d isn't past the one with the first wrong slot
+abbrev pub ComesBefore : ℕ → Kept → Type 0
+ComesBefore d kept = (wrong : WrongSlot) → kept.wrong ≡ Some wrong → d ≤ wrong.ino
+
+-- it comes before that one
+abbrev pub PastWrong : ℕ → Kept → Type 0
+PastWrong d kept = (wrong : WrongSlot) → kept.wrong ≡ Some wrong → d < wrong.ino
+
 -- ---- parents
 
 -- the parent of a directory is walked and has a slot past its first two for it; the root's is the root

@@ -87,7 +87,7 @@ pub(crate) fn keep_body(
 /// The block of sector `index` of a directory, 0 where it has none.
 pub(crate) fn block_of(bodies: &Bodies, ino: usize, index: usize) -> u32
     requires number { ino < length bodies.now.starts.items }
-    requires index { index ≤ 65536 }
+    requires index { index < 2 ^ 60 }
     ensures { result ≡ block_kept bodies.now ino index }
 {
     let start = bodies.starts[ino] as usize;

@@ -3,6 +3,7 @@
 
 mod bodies;
 mod damage;
+mod directories;
 mod inodes;
 mod listed;
 mod marks;
