@@ -15,3 +15,4 @@ pub mod Supers
 pub mod Passed
 pub mod Noting
 pub mod Deciding
+pub mod Knowing

@@ -149,4 +149,3 @@ kept_start g types counts named n m are zeros none = record {
 pub tests_split : (f : Frame) → tests f ≡ (Sizes ∷ tests_of_inodes f 1 (tree f).inodes) ++ tests_of_directories (tree f) 1 (tree f).inodes
 unfolding tests tests_of_inodes tests_of_directories
 tests_split f = refl
-

@@ -6,3 +6,4 @@ pub mod Walk
 pub mod Names
 pub mod Listed
 pub mod Noted
+pub mod Undamaged

@@ -77,9 +77,7 @@ pub(crate) fn keep_body(
     bodies.starts.push(bodies.blocks.len() as u32)?;
     bodies.slots.push(count)?;
     for index in 0..count.div_ceil(32) {
-        bodies
-            .blocks
-            .push(body_block(places, index as usize))?;
+        bodies.blocks.push(body_block(places, index as usize))?;
     }
     Ok(())
 }

@@ -1,6 +1,6 @@
 // The tests of the walked directories, by what was noted of them.
 
-ghost use Rattle.std.specs.Prelude.{◌≡◌, ◌<◌, ◌≤◌, ℕ, ◌-◌, List, Bool, true, length, OnOk, None};
+ghost use Rattle.std.specs.Prelude.{◌≡◌, ◌<◌, ◌≤◌, ℕ, ◌-◌, List, Bool, true, length, OnOk, IsErrOf, None};
 ghost use Rattle.stable.specs.Store.{Image};
 ghost use Rattle.v7_map.specs.Frame.{frame};
 ghost use Rattle.v7_map.specs.Tree.{Tree, tree, is_walked};
@@ -8,6 +8,7 @@ ghost use Rattle.v7_damage.specs.Names.{AreHeld, ComesBefore, HasNoted, PastWron
 ghost use Rattle.v7_damage.specs.Stored.{HasTables};
 ghost use Rattle.v7_damage.specs.Tests.{IsTold};
 ghost use Rattle.v7_damage.specs.Walk.{AreWalked};
+ghost use Rattle.v7_damage.specs.declared.damage.RepairFault.TheVariants as fault;
 
 use crate::bodies::block_of;
 use crate::damage::{Damage, RepairFault};
@@ -47,6 +48,7 @@ fn test_directory(
         → ComesBefore ino noted.now.kept → IsTold (frame image) (tests_of_directory (tree (frame image)) ino) result }
     ensures past { (image : Image) → HasNoted image listed.now.types.items listed.now.bodies walks.now noted.now.parents noted.now.kept (length listed.now.types.items)
         → ComesBefore ino noted.now.kept → OnOk result (PastWrong ino noted.now.kept) }
+    ensures works { IsErrOf result fault.Failed → ⊥ }
 {
     if !walks.found.has(ino as u32) {
         return Ok(());
@@ -87,6 +89,7 @@ pub(crate) fn test_directories(
         → IsTold (frame image) (tests_of_directories (tree (frame image)) 1 (length listed.now.types.items - 1)) result }
     ensures none { (image : Image) → HasNoted image listed.now.types.items listed.now.bodies walks.now noted.now.parents noted.now.kept (length listed.now.types.items)
         → OnOk result (noted.now.kept.wrong ≡ None) }
+    ensures works { IsErrOf result fault.Failed → ⊥ }
 {
     for ino in 1..listed.types.len() {
         match test_directory(ino as u16, listed, walks, noted) {

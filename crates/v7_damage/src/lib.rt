@@ -13,8 +13,10 @@ mod parents;
 mod places;
 mod reader;
 mod slots;
+mod tested;
 mod walk;
 
 pub use damage::{Damage, RepairFault};
 pub use marks::Marks;
 pub use reader::InodeReader;
+pub use tested::{Undamaged, find_damage};

@@ -70,7 +70,15 @@ pub(crate) fn list_inodes<S: Stable>(alloc: Global, store: &mut S) -> Result<Lis
     let mut types = Vec::with_capacity(alloc, room)?;
     types.push(0)?;
     let mut bodies = no_bodies(alloc, room)?;
-    match test_inodes(store, isize, fsize, inodes, &mut seen, &mut types, &mut bodies) {
+    match test_inodes(
+        store,
+        isize,
+        fsize,
+        inodes,
+        &mut seen,
+        &mut types,
+        &mut bodies,
+    ) {
         Ok(()) => Ok(Listed {
             super_block,
             types,

@@ -68,12 +68,7 @@ fn take_child(ino: u16, index: usize, types: &[u8], kept: &mut Kept) -> bool
 }
 
 // Whether slot `index` of a directory is empty or passes its test. It is counted from then on.
-fn test_slot(
-    slot: &Slot,
-    index: usize,
-    types: &[u8],
-    kept: &mut Kept,
-) -> bool
+fn test_slot(slot: &Slot, index: usize, types: &[u8], kept: &mut Kept) -> bool
     requires counts { length kept.old.counts.items ≡ length types.now }
     requires named { length kept.old.named ≡ length types.now }
     ensures passes { (f : Frame) (d : ℕ) → HasKept f types.now kept.old.counts.items kept.old.named d index → slot_at (tree f) d index ≡ seen_slot slot.now → result ≡ slot_passes f d index }
@@ -108,11 +103,7 @@ fn test_slot(
 }
 
 // The first slot of a directory that fails its test. Those before it are counted from then on.
-fn test_slots(
-    slots: &[Slot],
-    types: &[u8],
-    kept: &mut Kept,
-) -> Option<usize>
+fn test_slots(slots: &[Slot], types: &[u8], kept: &mut Kept) -> Option<usize>
     requires counts { length kept.old.counts.items ≡ length types.now }
     requires named { length kept.old.named ≡ length types.now }
     ensures told { (f : Frame) (d : ℕ) → HasKept f types.now kept.old.counts.items kept.old.named d 0 → map seen_slot slots.now ≡ f.slots d

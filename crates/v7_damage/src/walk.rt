@@ -38,12 +38,7 @@ pub(crate) struct Walks {
 }
 
 // Puts one number at the end of the list, if it is that of a directory that isn't there yet.
-fn find_one(
-    ino: u16,
-    types: &[u8],
-    found: &mut Marks,
-    list: &mut Vec<u16>,
-) -> Result<(), NoMemory>
+fn find_one(ino: u16, types: &[u8], found: &mut Marks, list: &mut Vec<u16>) -> Result<(), NoMemory>
     requires sizes { length types.now ≡ length found.old }
     ensures marks { OnOk result ((i : ℕ) → mark_at found.new i ≡ (mark_at found.old i || (is_dir_in types.now i && (ino == i)))) }
     ensures listed { AreListed found.old list.old.items → OnOk result (AreListed found.new list.new.items) }
