@@ -51,8 +51,8 @@ fn slots_of(inode: &Inode) -> u16
     (inode.size.min(SIZE_LIMIT) / 16) as u16
 }
 
-// The block of sector `index` of a body, 0 where no body has so many.
-fn body_block(places: &[u32; 140], index: usize) -> u32
+/// The block of sector `index` of a body, by the 140 blocks of its inode, 0 where no body has so many sectors.
+pub fn body_block(places: &[u32; 140], index: usize) -> u32
     ensures { index < 138 → result ≡ body_at places.now index }
 {
     if index >= 138 {

@@ -16,6 +16,7 @@ mod slots;
 mod tested;
 mod walk;
 
+pub use bodies::body_block;
 pub use damage::{Damage, RepairFault};
 pub use marks::Marks;
 pub use reader::InodeReader;

@@ -1,0 +1,3 @@
+pub mod SeenNumbers
+pub mod Usage
+pub mod Tidy

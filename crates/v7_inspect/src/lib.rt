@@ -1,0 +1,13 @@
+//! The inspection of a volume: its damage, or what is in it.
+#![tactic(auto)]
+
+mod inspection;
+mod judged;
+mod needs;
+mod seen;
+mod tally;
+mod tidy;
+
+pub use inspection::inspect;
+pub use seen::Seen;
+pub use v7_damage::{Damage, RepairFault};
