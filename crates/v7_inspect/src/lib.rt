@@ -11,3 +11,6 @@ mod tidy;
 pub use inspection::inspect;
 pub use seen::Seen;
 pub use v7_damage::{Damage, RepairFault};
+
+#[cfg(test)]
+mod tests;
