@@ -1,5 +1,5 @@
 -- The place of a sector of a body.
-use Rattle.std.proofs.Common.{◌≡◌, ℕ, ◌+◌, ◌-◌, ◌<◌, ◌≤◌, true, false, cond, get_or, List, sym, ap, subst, ◌∙◌, arith, ⊎_elim, eqb, ltb}
+use Rattle.std.proofs.Common.{◌≡◌, ℕ, ◌+◌, ◌-◌, ◌<◌, ◌≤◌, true, false, cond, List, sym, ap, subst, ◌∙◌, arith, ⊎_elim, eqb, ltb}
 use Rattle.std.proofs.lemmas.Bool.{cases_lt, lt-ltb, le-ltb, ne_eqb}
 use Rattle.v7_layout.specs.declared.inode.Inode.{Inode}
 use Rattle.v7_map.specs.Frame.{Frame, Body, Single, Double}

@@ -1,5 +1,5 @@
 -- The first test of a directory that fails, by what was noted.
-use Rattle.std.proofs.Common.{◌≡◌, ◌≢◌, ℕ, ◌+◌, ◌-◌, ◌*◌, ◌/◌, ◌<◌, ◌≤◌, Bool, true, false, ◌&&◌, List, [], ◌∷◌, length, refl, sym, ap, subst, ◌∙◌, arith, Some, None}
+use Rattle.std.proofs.Common.{◌≡◌, ℕ, ◌/◌, ◌<◌, ◌≤◌, Bool, true, false, ◌&&◌, List, length, refl, sym, ap, subst, ◌∙◌, Some, None}
 use Rattle.std.specs.Prelude.{Option}
 use Rattle.stable.specs.Store.{Image}
 use Rattle.v7_map.specs.Image.{inode_sector}
@@ -15,7 +15,7 @@ use Rattle.v7_damage.specs.declared.names.WrongSlot.{WrongSlot}
 use Rattle.v7_damage.specs.declared.parents.Parents.{Parents}
 use Rattle.v7_damage.specs.declared.walk.Walks.{Walks}
 use Rattle.v7_damage.specs.Marks.{mark_at}
-use Rattle.v7_damage.specs.Names.{HasNoted, IsWrong, begins_with_dots, is_held, tests_of_directory, tests_of_slots}
+use Rattle.v7_damage.specs.Names.{HasNoted, begins_with_dots, is_held, tests_of_directory, tests_of_slots}
 use Rattle.v7_damage.specs.Stored.{block_kept}
 use Rattle.v7_damage.specs.Tests.{first_failing, told}
 use Rattle.v7_damage.proofs.DirectoryTests.{dir_none, dir_some}

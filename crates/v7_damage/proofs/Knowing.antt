@@ -1,11 +1,11 @@
 -- What all tests tell.
-use Rattle.std.proofs.Common.{◌≡◌, ℕ, ◌+◌, ◌-◌, ◌<◌, ◌≤◌, List, [], ◌∷◌, length, get_or, append-nil, sym, ap, subst, ◌∙◌, arith, None}
+use Rattle.std.proofs.Common.{◌≡◌, ℕ, ◌+◌, ◌-◌, ◌∷◌, length, append-nil, ap, ◌∙◌, arith, None}
 use Rattle.std.specs.Prelude.{count_by}
 use Rattle.std.specs.List.{range_with_len, flat_map}
 use Rattle.stable.specs.Store.{Image}
 use Rattle.v7_map.specs.Frame.{Frame, frame}
 use Rattle.v7_map.specs.Tree.{Tree, tree, is_slot_of, links, seen_in}
-use Rattle.v7_map.specs.Damage.{Test, Sizes, damage, tests}
+use Rattle.v7_map.specs.Damage.{Sizes, damage, tests}
 use Rattle.v7_damage.specs.declared.damage.RepairFault.{RepairFault}
 use Rattle.v7_damage.specs.declared.damage.RepairFault.TheVariants.{Damaged, Failed, NoMemory}
 use Rattle.v7_damage.specs.declared.listed.Listed.{Listed}

@@ -2,10 +2,10 @@
 use Rattle.std.proofs.Common.{◌≡◌, ◌≢◌, ℕ, ◌+◌, ◌<◌, ◌≤◌, Bool, true, false, cond, not, ◌&&◌, ◌||◌, ◌==◌, List, [], ◌∷◌, ◌++◌, length, get_or, refl, sym, ap, subst, ◌∙◌, arith, ⊎_elim, inl, inr, ltb, leb, eq-eqb, None}
 use Rattle.std.specs.Prelude.{replicate, count_by}
 use Rattle.std.specs.List.{range_with_len, list_any}
-use Rattle.std.proofs.lemmas.Bool.{cases_eq, cases_lt, cases_Bool, leb-true, ltb-true, ne_eqb, le-leb}
+use Rattle.std.proofs.lemmas.Bool.{cases_eq, cases_lt, cases_Bool, leb-true, ltb-true, ne_eqb}
 use Rattle.std.proofs.lemmas.List.{drop_all, get_or-replicate, get_or_past, length-replicate}
 use Rattle.stable.specs.Store.{Image}
-use Rattle.v7_map.specs.Image.{is_inode, inode_at, inodes_before, isize_of}
+use Rattle.v7_map.specs.Image.{inode_at}
 use Rattle.v7_map.specs.Frame.{Frame, Head, Body, frame, is_directory}
 use Rattle.v7_map.specs.Tree.{Tree, tree, is_slot_of}
 use Rattle.v7_map.specs.Weak.{HasSizes}
@@ -14,7 +14,6 @@ use Rattle.v7_map.proofs.AnyFrame.{frame-IsFrame}
 use Rattle.v7_map.proofs.Frames.{and_left, and_right}
 use Rattle.v7_map.proofs.Members.{In, In-flat_map, In-range, find_none}
 use Rattle.v7_map.proofs.SuperBlock.{sizes-passed}
-use Rattle.v7_map.proofs.Walks.{and_both}
 use Rattle.v7_damage.specs.Marks.{mark_at}
 use Rattle.v7_damage.specs.declared.bodies.Bodies.{Bodies}
 use Rattle.v7_damage.specs.Stored.{place_of_body, AreBodies, HasBody, CanRead}

@@ -1,5 +1,5 @@
 -- What is known of a volume after its tests.
-use Rattle.std.specs.Prelude.{◌≡◌, ◌<◌, ◌≤◌, ℕ, ◌+◌, get_or, length, Option, Some, None, Result, Ok, Err}
+use Rattle.std.specs.Prelude.{◌≡◌, ◌<◌, ◌≤◌, ℕ, ◌+◌, get_or, length, Some, None, Result, Ok, Err}
 use Rattle.stable.specs.Store.{Image}
 use Rattle.v7_layout.specs.Records.{super_of}
 use Rattle.v7_map.specs.Image.{sector_at, inode_sector}

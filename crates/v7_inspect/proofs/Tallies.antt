@@ -15,7 +15,10 @@ use Rattle.v7_map.specs.Frame.{Frame, frame}
 use Rattle.v7_map.specs.Tree.{Tree, tree, is_named}
 use Rattle.v7_map.specs.View.{kind_of, view, files_of, node_of, body_at}
 use Rattle.v7_damage.specs.declared.tested.Undamaged.{Undamaged}
-use Rattle.v7_damage.specs.Undamaged.{IsUndamaged}
+use Rattle.v7_damage.specs.declared.damage.RepairFault.{RepairFault}
+use Rattle.v7_damage.specs.declared.damage.RepairFault.TheVariants.{Damaged, Failed, NoMemory}
+use Rattle.v7_damage.specs.Tests.{IsNoDamage}
+use Rattle.v7_damage.specs.Undamaged.{IsFaultOf, IsUndamaged}
 use Rattle.v7_damage.specs.Marks.{mark_at}
 use Rattle.v7_inspect.specs.SeenNumbers.{is_of, same_kind, is_node_of, nodes_of, is_counted}
 
@@ -120,3 +123,8 @@ module _ (image : Image) where
         ap (λ m. count_by (is_counted k known) (range_with_len 1 m)) all
         ∙ count_same (is_counted k known) (λ i. is_node_of k (get (view image).nodes i)) 1 t.inodes (each-counted k)
         ∙ ap (λ m. count_by (λ i. is_node_of k (get (view image).nodes i)) (range_with_len 1 m)) (sym view-inodes)
+
+pub undamaged_told : (image : Image) (e : RepairFault) → IsNoDamage e → IsFaultOf image e
+undamaged_told image (Damaged sector which) none = absurd none
+undamaged_told image Failed none = tt
+undamaged_told image NoMemory none = tt

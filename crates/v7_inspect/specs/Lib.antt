@@ -1,3 +1,4 @@
 pub mod SeenNumbers
 pub mod Usage
 pub mod Tidy
+pub mod Judged

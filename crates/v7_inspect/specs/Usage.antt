@@ -1,10 +1,11 @@
 -- The blocks that are in use.
-use Rattle.std.specs.Prelude.{◌≡◌, ◌<◌, ◌≤◌, ℕ, ◌+◌, Bool, true, List, get_or, min, nat_lt, nat_le, ◌==◌, ◌&&◌, ◌||◌, not, count_by, if◌then◌else◌}
+use Rattle.std.specs.Prelude.{◌≡◌, ◌≢◌, ◌<◌, ℕ, ◌+◌, Bool, List, length, min, nat_le, ◌==◌, ◌&&◌, ◌||◌, not, count_by, if◌then◌else◌}
 use Rattle.std.specs.List.{range_with_len, list_any}
 use Rattle.stable.specs.Store.{Image}
 use Rattle.files_model.specs.Files.{sectors_of}
-use Rattle.v7_map.specs.Frame.{Frame, Body, frame}
+use Rattle.v7_map.specs.Frame.{Frame, Body, Single, frame}
 use Rattle.v7_map.specs.Tree.{tree, is_named}
+use Rattle.v7_damage.specs.Marks.{mark_at}
 use Rattle.v7_damage.specs.Stored.{body_at}
 
 -- the blocks of the first n sectors of a body where these tests say that one stands, with the block of addresses that they need
@@ -18,6 +19,20 @@ sectors_in_size size = min (sectors_of size) 138
 -- a block stands at the place of sector k
 abbrev pub is_at : List ℕ → ℕ → Bool
 is_at places k = not (body_at places k == 0)
+
+-- block b is one of the first n sectors of a body, or the one of addresses where one of these from the tenth on stands somewhere
+abbrev pub needs_block : (ℕ → ℕ) → ℕ → ℕ → ℕ → Bool
+needs_block at single n b = list_any (λ k. at k == b) (range_with_len 0 n) || (list_any (λ k. nat_le 10 k && not (at k == 0)) (range_with_len 0 n) && (single == b))
+
+-- inode i is named and needs block b
+unfoldable pub is_needed_by : Image → ℕ → ℕ → Bool
+is_needed_by image b i =
+    let f = frame image in
+    is_named (tree f) i && needs_block (λ k. f.address i (Body k)) (f.address i Single) (sectors_in_size (f.head i).size) b
+
+-- the marks of the blocks that the named ones of the first n inodes need; 0 is no block
+pub record AreNeeded (image : Image) (marks : List Bool) (n : ℕ) : Type 0 where
+  pub each : (b : ℕ) → b ≢ 0 → b < length marks → mark_at marks b ≡ list_any (is_needed_by image b) (range_with_len 1 n)
 
 -- the blocks that inode i needs
 unfoldable pub needs : Frame → ℕ → ℕ

@@ -26,9 +26,9 @@ pub fn inspect<S: Stable>(alloc: Global, store: &mut S) -> Result<Seen, RepairFa
         Ok(known) => known,
         Err(fault) => return Err(fault),
     };
-    let judged = match judge_inodes(store, &known) {
+    let judged = match judge_inodes(alloc, store, &known) {
         Ok(judged) => judged,
-        Err(_) => return Err(RepairFault::Failed),
+        Err(fault) => return Err(fault),
     };
     let data = known
         .super_block
@@ -40,7 +40,7 @@ pub fn inspect<S: Stable>(alloc: Global, store: &mut S) -> Result<Seen, RepairFa
         files: count_kind(Kind::Regular, &known),
         directories: count_kind(Kind::Directory, &known),
         links: count_kind(Kind::Link, &known),
-        used: judged.needs,
-        free: data.saturating_sub(judged.needs),
+        used: judged.used,
+        free: data.saturating_sub(judged.used),
     })
 }

@@ -9,6 +9,7 @@ mod tally;
 mod tidy;
 
 pub use inspection::inspect;
+pub use judged::{Judged, judge_inodes};
 pub use seen::Seen;
 pub use v7_damage::{Damage, RepairFault};
 

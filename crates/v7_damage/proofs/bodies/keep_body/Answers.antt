@@ -1,4 +1,4 @@
-use Rattle.std.proofs.Common.{rules, arith, ◌≡◌, ◌<◌, ◌≤◌, ◌+◌, ◌/◌, ◌∙◌, ◌++◌, ◌∷◌, [], ℕ, ap, map}
+use Rattle.std.proofs.Common.{rules, ◌≡◌, ◌+◌, ◌/◌, ◌∙◌, ◌++◌, ◌∷◌, [], ap, map}
 use Rattle.std.specs.List.{range_with_len}
 use Rattle.v7_damage.specs.Stored.{body_at, slots_kept}
 use Rattle.v7_damage.proofs.SlotSectors.{pushed}

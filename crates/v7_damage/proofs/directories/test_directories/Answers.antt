@@ -1,4 +1,4 @@
-use Rattle.std.proofs.Common.{rules, arith, ◌≡◌, ◌+◌, ◌-◌, ◌∙◌, ℕ, length, sym, ap, None}
+use Rattle.std.proofs.Common.{arith, ◌+◌, ◌-◌, ◌∙◌, ℕ, length, ap}
 use Rattle.v7_map.specs.Frame.{Frame, frame}
 use Rattle.v7_map.specs.Tree.{tree}
 use Rattle.v7_damage.specs.Names.{tests_of_directory, tests_of_directories}

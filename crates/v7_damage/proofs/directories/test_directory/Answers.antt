@@ -1,5 +1,4 @@
-use Rattle.std.proofs.Common.{rules, arith, ◌≡◌, ◌≢◌, ◌<◌, ◌∙◌, ℕ, length, true, false, Some, sym, ap, subst}
-use Rattle.stable.specs.Store.{Image}
+use Rattle.std.proofs.Common.{rules, arith, ◌≡◌, ◌≢◌, ◌∙◌, length, true, false, Some, sym, subst}
 use Rattle.v7_map.specs.Frame.{frame}
 use Rattle.v7_map.specs.Tree.{tree, is_walked}
 use Rattle.v7_map.specs.Image.{inode_sector}

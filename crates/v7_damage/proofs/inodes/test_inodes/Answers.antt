@@ -1,4 +1,4 @@
-use Rattle.std.proofs.Common.{rules, arith, ◌≡◌, ◌<◌, ◌≤◌, ◌/◌, ℕ, ◌+◌, ◌-◌, ◌++◌, [], ◌∷◌, true, Some, None, length, get_or, sym, ap, subst, ◌∙◌, ⊎_elim}
+use Rattle.std.proofs.Common.{rules, arith, ◌≡◌, ◌<◌, ◌≤◌, ◌/◌, ℕ, ◌+◌, ◌-◌, ◌++◌, [], ◌∷◌, true, Some, None, get_or, sym, ap, subst, ◌∙◌, ⊎_elim}
 use Rattle.std.specs.Option.{option_map}
 use Rattle.std.proofs.lemmas.Bool.{cases_lt}
 use Rattle.std.proofs.lemmas.List.{get_or_past}

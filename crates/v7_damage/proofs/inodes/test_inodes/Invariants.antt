@@ -1,4 +1,4 @@
-use Rattle.std.proofs.Common.{◌≡◌, ◌<◌, ◌≤◌, ◌+◌, ◌-◌, ◌*◌, ℕ, [], length, get_or}
+use Rattle.std.proofs.Common.{◌≡◌, ◌<◌, ◌+◌, ◌-◌, ℕ, [], length, get_or}
 use Rattle.stable.specs.Looked.{Looked}
 use Rattle.v7_map.specs.Frame.{frame}
 use Rattle.v7_damage.specs.Marks.{AreSeen}

@@ -1,4 +1,4 @@
-use Rattle.std.proofs.Common.{rules, arith, ◌≡◌, ◌∙◌, ◌+◌, ◌≤◌, ◌<◌, ◌∷◌, ℕ, [], None, length, sym, ap, subst}
+use Rattle.std.proofs.Common.{rules, arith, ◌≡◌, ◌∙◌, ◌+◌, ◌∷◌, [], None, sym, ap, subst}
 use Rattle.stable.specs.Store.{Image}
 use Rattle.v7_map.specs.Frame.{Frame, frame}
 use Rattle.v7_map.specs.Tree.{tree}

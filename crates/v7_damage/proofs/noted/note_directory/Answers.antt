@@ -1,4 +1,4 @@
-use Rattle.std.proofs.Common.{rules, arith, ◌≡◌, ◌≢◌, ◌||◌, ◌&&◌, ◌==◌, ◌∙◌, ℕ, List, true, false, get_or, map, take, drop, ◌-◌, min, length, sym, ap, subst, ◌+◌}
+use Rattle.std.proofs.Common.{rules, arith, ◌≡◌, ◌||◌, ◌&&◌, ◌==◌, ◌∙◌, ℕ, List, true, false, get_or, map, take, drop, ◌-◌, min, length, sym, ap, subst, ◌+◌}
 use Rattle.std.proofs.lemmas.List.{drop_min, take_rest}
 use Rattle.stable.specs.Store.{Image}
 use Rattle.v7_layout.specs.declared.slot.Slot.{Slot}

@@ -1,53 +1,31 @@
-use Rattle.std.proofs.Common.{rules, arith, ◌≡◌, ◌≢◌, ◌<◌, ◌+◌, ◌-◌, ◌∙◌, ◌&&◌, ℕ, length, sym, ap, subst}
+use Rattle.std.proofs.Common.{rules, arith, ◌≡◌, ◌-◌, ◌+◌, ◌∙◌, ℕ, length, sym, ap, subst}
 use Rattle.std.specs.List.{range_with_len, sum_by, list_all}
+use Rattle.files_model.specs.Space.{usage}
 use Rattle.stable.specs.Store.{Image}
-use Rattle.stable.proofs.Looking.{no_look, looks_again}
 use Rattle.v7_map.specs.Frame.{frame}
-use Rattle.v7_damage.specs.Stored.{Keeps}
-use Rattle.v7_damage.specs.Undamaged.{HasEntries, IsUndamaged}
+use Rattle.v7_map.specs.Tree.{tree}
+use Rattle.v7_map.specs.View.{view}
+use Rattle.v7_map.proofs.AnyFrame.{frame-IsFrame}
+use Rattle.v7_map.proofs.Undamaged.{weak_without_damage}
 use Rattle.v7_inspect.specs.Tidy.{is_strong_at}
-use Rattle.v7_inspect.specs.Usage.{named_needs}
-use Rattle.v7_inspect.proofs.Mending.{all_more}
-use Rattle.v7_inspect.proofs.Usages.{sum_more}
+use Rattle.v7_inspect.specs.Usage.{AreNeeded, named_needs}
+use Rattle.v7_inspect.proofs.Mending.{strong_if, if_strong}
+use Rattle.v7_inspect.proofs.Usages.{needed_none}
+use Rattle.v7_inspect.proofs.ViewUsage.{usage_is}
 use Rattle.v7_inspect.proofs.judged.judge_inodes.Goals as goal
 
-pub loop-ino-init : goal.loop-ino-init
-loop-ino-init g c =
-    let S = g.S.Stable in
+pub returns-clause-judged : goal.returns-clause-judged
+returns-clause-judged g c = λ tells is.
+    let image : Image = g.S.Stable.image c.args.store.now in
+    let known = c.args.known.now in
+    let count = is.count in
+    let all : length known.types.items - 1 ≡ (tree (frame image)).inodes = omega arith in
+    let weak = weak_without_damage (frame image) (frame-IsFrame image) is.undamaged in
+    let strong : c.in_ok-sum.sum.strong ≡ list_all (is_strong_at (frame image)) (range_with_len 1 (tree (frame image)).inodes) =
+    c.in_ok-sum.ensures.strong tells is ∙ (λ z. list_all (is_strong_at (frame image)) (range_with_len 1 (all z))) in
     record {
-      needs = search rules;
-      strong = search rules;
-      few = omega arith;
-      keeps = λ tells. record { kept = λ some. absurd (some c.new-reader.ensures) };
-      looked = no_look S g.met.S.Stable.clocked c.args.store.now;
+      strong_only = λ yes. strong_if (frame image) (frame-IsFrame image) weak (sym strong ∙ yes);
+      strong_always = λ is-strong. strong ∙ if_strong (frame image) (frame-IsFrame image) weak is-strong;
+      used_is = c.in_ok-sum.ensures.needs tells is ∙ (λ z. sum_by (named_needs image) (range_with_len 1 (all z))) ∙ sym (usage_is image weak);
+      needed_are = subst (AreNeeded image c.sum_inodes.new.needed) all (c.in_ok-sum.ensures.marks tells is (needed_none image c.in_ok-needed.needed known.super_block.s_fsize c.in_ok-needed.ensures));
     }
-
-pub judge_inode-requires-clause-entries : goal.judge_inode-requires-clause-entries
-judge_inode-requires-clause-entries g c = subst (λ n. HasEntries n c.args.known.now) (sym c.loop-ino.invariant.looked.sectors) c.requires
-
-pub loop-ino-preserved : goal.loop-ino-preserved
-loop-ino-preserved g c =
-    let S = g.S.Stable in
-    let image : Image = S.image c.args.store.now in
-    let i = c.loop-ino.invariant in
-    let ino : ℕ = c.loop-ino.ino in
-    let keeps : S.tells → Keeps (S.image c.loop-ino.store) c.loop-ino.reader = (λ tells. subst (λ (x : Image). Keeps x c.loop-ino.reader) (sym i.looked.image) (i.keeps tells)) in
-    let has : IsUndamaged image c.args.known.now → IsUndamaged (S.image c.loop-ino.store) c.args.known.now = (λ is. subst (λ (x : Image). IsUndamaged x c.args.known.now) (sym i.looked.image) is) in
-    record {
-      needs = λ tells is. (λ z. i.needs tells is z + (c.in_ok-judged.ensures.needs tells (keeps tells) (has is) ∙ ap (λ (x : Image). named_needs x ino) i.looked.image) z) ∙ sym (sum_more (named_needs image) ino c.loop-ino.auto.ino);
-      strong = λ tells is. c.both-strong.ensures ∙ (λ z. i.strong tells is z && (c.in_ok-judged.ensures.strong tells (keeps tells) (has is) ∙ ap (λ (x : Image). is_strong_at (frame x) ino) i.looked.image) z)
-          ∙ sym (all_more (is_strong_at (frame image)) ino c.loop-ino.auto.ino);
-      few = (let was = i.few in let one = c.in_ok-judged.ensures.few in omega arith);
-      keeps = λ tells. subst (λ (x : Image). Keeps x c.judge_inode.new.reader) i.looked.image (c.in_ok-judged.ensures.keeps tells (keeps tells));
-      looked = looks_again S g.met.S.Stable.clocked i.looked c.in_ok-judged.ensures.looked;
-    }
-
-pub returns-clause-needs : goal.returns-clause-needs
-returns-clause-needs g c = λ tells is.
-    let end : c.loop-ino.ino - 1 ≡ length c.args.known.now.types.items - 1 = omega arith in
-    c.loop-ino.invariant.needs tells is ∙ ap (λ n. sum_by (named_needs (g.S.Stable.image c.args.store.now)) (range_with_len 1 n)) end
-
-pub returns-clause-strong : goal.returns-clause-strong
-returns-clause-strong g c = λ tells is.
-    let end : c.loop-ino.ino - 1 ≡ length c.args.known.now.types.items - 1 = omega arith in
-    c.loop-ino.invariant.strong tells is ∙ ap (λ n. list_all (is_strong_at (frame (g.S.Stable.image c.args.store.now))) (range_with_len 1 n)) end
