@@ -21,3 +21,6 @@ pub use damage::{Damage, RepairFault};
 pub use marks::Marks;
 pub use reader::InodeReader;
 pub use tested::{Undamaged, find_damage};
+
+#[cfg(test)]
+mod tests;
