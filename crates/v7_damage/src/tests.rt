@@ -1,8 +1,10 @@
 //! What the tests of a small volume find out. Its damages are the tests of the inspection above.
 
 use super::*;
+use stable::Stable;
 use std::test::Fail;
 use store_mem::Memory;
+use v7_map::inode_sector_of;
 use volume_mem::{FRESH, test_volume};
 
 #[test]
@@ -35,17 +37,25 @@ fn the_root_and_its_file_are_known(rt: HostRuntime) -> Result<(), Fail> {
     Ok(())
 }
 
+// The mode of an inode that stands in the store.
+fn mode_of(reader: &mut InodeReader, store: &mut Memory, ino: u32) -> Option<u16> {
+    if inode_sector_of(ino) >= store.sectors() {
+        return None;
+    }
+    match reader.read(store, ino) {
+        Ok(inode) => Some(inode.mode),
+        Err(_) => None,
+    }
+}
+
 #[test]
 fn inodes_are_read_in_any_order(rt: HostRuntime) -> Result<(), Fail> {
     let mut sectors = test_volume(rt.alloc(), FRESH)?;
     sectors.truncate(64);
     let mut store = Memory::new(rt.alloc(), &sectors)?;
-    if sectors.len() < 4 {
-        return Ok(());
-    }
     let mut reader = InodeReader::new();
     for (ino, mode) in [(3, 0o100_644), (2, 0o040_755), (9, 0), (3, 0o100_644)] {
-        assert!(rt; reader.read(&mut store, ino).map(|inode| inode.mode) == Ok(mode));
+        assert!(rt; mode_of(&mut reader, &mut store, ino) == Some(mode));
     }
     Ok(())
 }
