@@ -1,0 +1,129 @@
+// Makes a volume of 1,048,576 sectors with 65,528 inodes, and times the reading of its i-list, maps and directories.
+//
+//   volume make few|many FILE    few: 10 files in the root; many: 64,000 files of 12 sectors in 640 directories
+//   volume read FILE             reads each sector of the i-list, each block of addresses and each directory's sector once, from memory; prints
+//                                milliseconds, the sectors that it read, and a sum of them
+#include <stdint.h>
+#include <stdio.h>
+#include <stdlib.h>
+#include <string.h>
+#include <time.h>
+
+enum { SECTORS = 1048576, INODES = 65528, ISIZE = INODES / 8 + 2, FILES = 100 };
+
+static uint8_t *disk;
+static uint32_t next_block = ISIZE;
+
+static void put(uint8_t *at, int bytes, uint32_t value) {
+    for (int i = 0; i < bytes; i++) at[i] = (uint8_t)(value >> (8 * i));
+}
+
+static uint32_t get(const uint8_t *at, int bytes) {
+    uint32_t value = 0;
+    for (int i = bytes - 1; i >= 0; i--) value = value << 8 | at[i];
+    return value;
+}
+
+static uint8_t *sector(uint32_t s) { return disk + 512ull * s; }
+
+static uint8_t *inode(uint32_t i) { return sector(2 + (i - 1) / 8) + 64 * ((i - 1) % 8); }
+
+// An inode of this mode and size with all its sectors, and the block of addresses if it needs one.
+static void make(uint32_t i, uint32_t mode, uint32_t links, uint32_t size) {
+    uint8_t *n = inode(i);
+    put(n, 2, mode);
+    put(n + 2, 2, links);
+    put(n + 8, 4, size);
+    uint32_t count = (size + 511) / 512;
+    if (count > 10) put(n + 42, 3, next_block++);
+    for (uint32_t k = 0; k < count; k++) {
+        if (k < 10) put(n + 12 + 3 * k, 3, next_block++);
+        else put(sector(get(n + 42, 3)) + 4 * (k - 10), 4, next_block++);
+    }
+    put(n + 48, 4, 1);
+}
+
+static uint32_t body(const uint8_t *n, uint32_t k) {
+    return k < 10 ? get(n + 12 + 3 * k, 3) : get(sector(get(n + 42, 3)) + 4 * (k - 10), 4);
+}
+
+static void slot(uint32_t directory, uint32_t k, uint32_t i, const char *name) {
+    uint8_t *at = sector(body(inode(directory), k / 32)) + 16 * (k % 32);
+    put(at, 2, i);
+    strncpy((char *)at + 2, name, 14);
+}
+
+static void make_volume(int many) {
+    char name[15];
+    uint8_t *s = sector(1);
+    put(s, 2, ISIZE);
+    put(s + 2, 4, SECTORS);
+    memcpy(s + 434, "VOLA00", 6);
+    put(s + 440, 4, 1);
+    uint32_t directories = many ? 640 : 0, files = many ? FILES : 10;
+    uint32_t direct = many ? 0 : files;
+    make(2, 0040755, 2 + directories, 16 * (2 + directories + direct));
+    slot(2, 0, 2, ".");
+    slot(2, 1, 2, "..");
+    uint32_t i = 3;
+    for (uint32_t k = 0; k < direct; k++, i++) {
+        make(i, 0100644, 1, 138 * 512);
+        snprintf(name, sizeof name, "f%u", k);
+        slot(2, 2 + k, i, name);
+    }
+    for (uint32_t d = 0; d < directories; d++) {
+        uint32_t up = i++;
+        make(up, 0040755, 2, 16 * (2 + files));
+        snprintf(name, sizeof name, "d%u", d);
+        slot(2, 2 + d, up, name);
+        slot(up, 0, up, ".");
+        slot(up, 1, 2, "..");
+        for (uint32_t k = 0; k < files; k++, i++) {
+            make(i, 0100644, 1, 12 * 512);
+            snprintf(name, sizeof name, "f%u", k);
+            slot(up, 2 + k, i, name);
+        }
+    }
+}
+
+static uint64_t sum, reads;
+
+static void read_sector(uint32_t s, uint8_t *into) {
+    memcpy(into, sector(s), 512);
+    sum += into[0] + into[511];
+    reads++;
+}
+
+static void read_all(void) {
+    uint8_t list[512], map[512], slots[512];
+    for (uint32_t s = 2; s < ISIZE; s++) {
+        read_sector(s, list);
+        for (const uint8_t *n = list; n < list + 512; n += 64) {
+            if (get(n, 2) == 0) continue;
+            uint32_t single = get(n + 42, 3);
+            if (single != 0) read_sector(single, map);
+            if (get(n, 2) / 4096 != 4) continue;
+            for (uint32_t k = 0; k < (get(n + 8, 4) + 511) / 512; k++)
+                read_sector(k < 10 ? get(n + 12 + 3 * k, 3) : get(map + 4 * (k - 10), 4), slots);
+        }
+    }
+}
+
+int main(int argc, char **argv) {
+    disk = calloc(SECTORS, 512);
+    if (disk == NULL || argc < 3) return 1;
+    if (strcmp(argv[1], "make") == 0 && argc == 4) {
+        make_volume(strcmp(argv[2], "many") == 0);
+        FILE *file = fopen(argv[3], "wb");
+        return file == NULL || fwrite(disk, 512, SECTORS, file) != SECTORS || fclose(file) != 0;
+    }
+    FILE *file = fopen(argv[2], "rb");
+    if (file == NULL || fread(disk, 512, SECTORS, file) != SECTORS) return 1;
+    struct timespec start, end;
+    clock_gettime(CLOCK_MONOTONIC, &start);
+    read_all();
+    clock_gettime(CLOCK_MONOTONIC, &end);
+    double ms = (end.tv_sec - start.tv_sec) * 1e3 + (end.tv_nsec - start.tv_nsec) / 1e6;
+    printf("%.1f %llu %llu\n", ms, (unsigned long long)reads, (unsigned long long)sum);
+    return 0;
+}

@@ -1,0 +1,26 @@
+//! Damage of a volume: the first test that fails, or what the tests have found out.
+#![tactic(auto)]
+
+mod bodies;
+mod damage;
+mod directories;
+mod inodes;
+mod listed;
+mod marks;
+mod names;
+mod noted;
+mod parents;
+mod places;
+mod reader;
+mod slots;
+mod tested;
+mod walk;
+
+pub use bodies::body_block;
+pub use damage::{Damage, RepairFault};
+pub use marks::Marks;
+pub use reader::InodeReader;
+pub use tested::{Undamaged, find_damage};
+
+#[cfg(test)]
+mod tests;

@@ -1,0 +1,49 @@
+// The inodes of a volume, one after the other.
+
+ghost use Rattle.std.specs.Prelude.{◌≡◌, ◌<◌, true, IfOk};
+ghost use Rattle.stable.specs.Counts.{HasCause};
+ghost use Rattle.stable.specs.Looked.{Looked};
+ghost use Rattle.v7_map.specs.Image.{inode_sector, is_inode, inode_at};
+ghost use Rattle.v7_damage.specs.Stored.{Keeps};
+
+use stable::{Failed, Stable};
+use v7_layout::Inode;
+use v7_map::{empty_sector, get_sector, inode_in, inode_sector_of};
+
+/// Reads inodes, and keeps the sector that it read last: inodes in rising number take one read for eight of them. Nothing may be put
+/// between two of its reads.
+#[derive(Clone, Copy)]
+pub struct InodeReader {
+    /// The sector, 0 before the first.
+    sector: u32,
+    bytes: [u8; 512],
+}
+
+impl InodeReader {
+    /// A reader that has read nothing.
+    pub fn new() -> Self
+        ensures { result.sector ≡ 0 }
+    {
+        InodeReader {
+            sector: 0,
+            bytes: empty_sector(),
+        }
+    }
+
+    /// Reads the inode of this number. Failed leaves the reader as it was.
+    pub fn read<S: Stable>(&mut self, store: &mut S, ino: u32) -> Result<Inode, Failed>
+        requires { inode_sector ino < S.sector_count store.old }
+        ensures inode { S.tells → Keeps (S.image store.old) self.old → is_inode (S.image store.old) ino ≡ true → IfOk result (λ inode. inode ≡ inode_at (S.image store.old) ino) }
+        ensures keeps { S.tells → Keeps (S.image store.old) self.old → Keeps (S.image store.old) self.new }
+        ensures cause { HasCause (S.faults store.old) (S.faults store.new) result }
+        ensures looked { Looked S.Stable store.old store.new }
+    {
+        let sector = inode_sector_of(ino);
+        if self.sector == sector {
+            return Ok(inode_in(&self.bytes, ino));
+        }
+        let bytes = get_sector(store, sector)?;
+        *self = InodeReader { sector, bytes };
+        Ok(inode_in(&bytes, ino))
+    }
+}

@@ -1,0 +1,4 @@
+pub mod Tallies
+pub mod Usages
+pub mod ViewUsage
+pub mod Mending

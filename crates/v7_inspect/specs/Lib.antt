@@ -1,0 +1,4 @@
+pub mod SeenNumbers
+pub mod Usage
+pub mod Tidy
+pub mod Judged

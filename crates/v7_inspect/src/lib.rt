@@ -1,0 +1,17 @@
+//! The inspection of a volume: its damage, or what is in it.
+#![tactic(auto)]
+
+mod inspection;
+mod judged;
+mod needs;
+mod seen;
+mod tally;
+mod tidy;
+
+pub use inspection::inspect;
+pub use judged::{Judged, judge_inodes};
+pub use seen::Seen;
+pub use v7_damage::{Damage, RepairFault};
+
+#[cfg(test)]
+mod tests;

@@ -1,0 +1,6 @@
+//! The test volume, and what is wrong with it.
+
+mod damages;
+mod needed;
+mod patched;
+mod trees;

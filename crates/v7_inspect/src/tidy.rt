@@ -1,0 +1,69 @@
+// Whether there is nothing to mend in an inode.
+
+ghost use Rattle.std.specs.Prelude.{◌≡◌, ◌≢◌, true, get_or, ◌||◌, ◌&&◌, ◌==◌};
+ghost use Rattle.v7_damage.specs.Stored.{body_at};
+ghost use Rattle.v7_inspect.specs.Tidy.{none_past, some_listed, is_tidy};
+
+use v7_damage::body_block;
+use v7_layout::Inode;
+use v7_map::sectors_of;
+
+/// Both.
+pub(crate) fn both(first: bool, second: bool) -> bool
+    ensures { result ≡ (first && second) }
+{
+    first && second
+}
+
+// One of them.
+fn either(first: bool, second: bool) -> bool
+    ensures { result ≡ (first || second) }
+{
+    first || second
+}
+
+// Whether no sector of a body of this size stands past it.
+fn none_past(size: u32, places: &[u32; 140]) -> bool
+    ensures { result ≡ none_past (body_at places.now) size 138 }
+{
+    let sectors = sectors_of(size) as usize;
+    let mut none = true;
+    for index in 0..138 {
+        let fits = either(index < sectors, body_block(places, index) == 0);
+        none = both(none, fits);
+    }
+    none
+}
+
+// Whether a sector of a body from the tenth on stands somewhere.
+fn some_listed(places: &[u32; 140]) -> bool
+    ensures { result ≡ some_listed (body_at places.now) 128 }
+{
+    let mut some = false;
+    for index in 0..128 {
+        some = either(some, body_block(places, index + 10) != 0);
+    }
+    some
+}
+
+// Whether the addresses of an inode of this size are tidy.
+fn is_tidy(size: u32, places: &[u32; 140]) -> bool
+    ensures { result ≡ is_tidy (body_at places.now) (get_or places.now 10 0) size }
+{
+    both(
+        none_past(size, places),
+        either(places[10] == 0, some_listed(places)),
+    )
+}
+
+/// Whether there is nothing to mend in an inode whose blocks stand at these places, that so many slots name.
+pub(crate) fn is_strong(inode: &Inode, places: &[u32; 140], named: bool, count: u16) -> bool
+    ensures free { inode.now.mode ≡ 0 → result ≡ true }
+    ensures used { inode.now.mode ≢ 0 → result ≡ ((inode.now.nlink == count) && (named && is_tidy (body_at places.now) (get_or places.now 10 0) inode.now.size)) }
+{
+    if inode.mode == 0 {
+        return true;
+    }
+    let counted = inode.nlink == count;
+    both(counted, both(named, is_tidy(inode.size, places)))
+}

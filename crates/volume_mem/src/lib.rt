@@ -1,0 +1,8 @@
+//! A small volume in memory, for tests: a root, and one file in it.
+#![tactic(auto)]
+
+mod records;
+mod sectors;
+
+pub use records::{FRESH, Shape, WRITTEN, file};
+pub use sectors::{sectors_of, test_volume};
