@@ -7,7 +7,7 @@ use stable::Command;
 use xdr_rpc::{RpcCall, word_at};
 
 /// What a call of the control program asks for: a command to a volume, a volume's status, the end of the server; or what is answered by `void_reply`, `too_weak_reply` and `garbage_reply` of `xdr_rpc`.
-#[derive(Clone, Copy)]
+#[derive(Clone, Copy, Debug, PartialEq, Eq)]
 pub enum Control {
     Command { volume: u32, command: Command },
     Status { volume: u32 },

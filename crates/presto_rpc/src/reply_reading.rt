@@ -8,10 +8,18 @@ use stable::{Battery, Cause, State};
 use xdr_rpc::word_at;
 
 /// What a datagram says to a call of the control program: an answer by its code; the status of a volume, with the sectors that are dirty and the puts so far; a reply of any other form; or it is no reply to this call.
-#[derive(Clone, Copy)]
+#[derive(Clone, Copy, Debug, PartialEq, Eq)]
 pub enum ControlReply {
-    Answer { code: u32, n: u32 },
-    Status { state: State, dirty: u32, battery: Battery, puts: u64 },
+    Answer {
+        code: u32,
+        n: u32,
+    },
+    Status {
+        state: State,
+        dirty: u32,
+        battery: Battery,
+        puts: u64,
+    },
     Refused,
     Other,
 }

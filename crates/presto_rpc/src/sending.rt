@@ -47,7 +47,9 @@ fn on_volume(xid: u32, procedure: u32, volume: u32) -> ControlBytes
     ensures bytes { result ≡ asked_bytes xid procedure (words (volume ∷ [])) }
     ensures fits { volume < 2 ^ 32 }
 {
-    bytes_of_words(&[xid, 0, 2, PROGRAM, 1, procedure, 1, 20, 0, 0, 0, 0, 0, 0, 0, volume])
+    bytes_of_words(&[
+        xid, 0, 2, PROGRAM, 1, procedure, 1, 20, 0, 0, 0, 0, 0, 0, 0, volume,
+    ])
 }
 
 #[tactic(auto, unfolding(crate::specs::Sending::asked_bytes, xdr_rpc::specs::Sending::sent_as, xdr_rpc::specs::Sending::unix_body, xdr_rpc::specs::Words::opaque_bytes, xdr_rpc::specs::Words::words))]
