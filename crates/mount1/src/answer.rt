@@ -46,7 +46,12 @@ impl Mounts {
         }
     }
 
-    fn answer_mount(&mut self, alloc: Global, call: &RpcCall, roots: &[FileId]) -> Result<ReplyBytes, NoMemory>
+    fn answer_mount(
+        &mut self,
+        alloc: Global,
+        call: &RpcCall,
+        roots: &[FileId],
+    ) -> Result<ReplyBytes, NoMemory>
         requires { length roots.now ≡ self.old.volumes }
         ensures reply { IfOk result (λ reply. reply ≡ mnt_reply self.old roots.now call.now.xid (path_arg call.now.args)) }
         ensures rows { OnOk result (self.new ≡ with_rows self.old (mnt self.old call.now.machine (path_arg call.now.args))) }
@@ -87,7 +92,12 @@ impl Mounts {
     }
 
     /// Answers a call of MOUNT, where these are the roots of the volumes that are open (RFC 1094 appendix A.5; docs/FORMATS.md, "MOUNT"). Where there is no memory for the reply or a row, the list stays as it was.
-    pub fn answer(&mut self, alloc: Global, call: &RpcCall, roots: &[FileId]) -> Result<ReplyBytes, NoMemory>
+    pub fn answer(
+        &mut self,
+        alloc: Global,
+        call: &RpcCall,
+        roots: &[FileId],
+    ) -> Result<ReplyBytes, NoMemory>
         requires { length roots.now ≡ self.old.volumes }
         ensures reply { IfOk result (λ reply. reply ≡ reply_to self.old roots.now call.now) }
         ensures rows { OnOk result (self.new ≡ with_rows self.old (rows_after self.old call.now)) }

@@ -8,3 +8,5 @@ mod replies;
 
 pub use list::{Mounts, Row};
 
+#[cfg(test)]
+mod tests;

@@ -61,7 +61,7 @@ impl Mounts {
     }
 
     /// How many volumes are open.
-    pub fn volumes(&self) -> u32
+    pub(crate) fn volumes(&self) -> u32
         ensures volumes { result ≡ self.now.volumes }
         ensures few { result ≤ 4 }
     {
@@ -69,7 +69,7 @@ impl Mounts {
     }
 
     /// The rows.
-    pub fn rows(&self) -> &[Row]
+    pub(crate) fn rows(&self) -> &[Row]
         ensures rows { result.now ≡ self.now.rows }
         ensures fit { AreRows result.now }
     {
@@ -77,7 +77,7 @@ impl Mounts {
     }
 
     /// Adds a row, unless it stands there or 64 do.
-    pub fn mount(&mut self, machine: &Name, volume: u32) -> Result<(), NoMemory>
+    pub(crate) fn mount(&mut self, machine: &Name, volume: u32) -> Result<(), NoMemory>
         requires { volume ≤ 3 }
         ensures ok { OnOk result (self.new ≡ with_rows self.old (mounted machine.now volume self.old.rows)) }
         ensures err { OnErr result (self.new ≡ self.old) }
@@ -86,14 +86,14 @@ impl Mounts {
     }
 
     /// Removes a row, if it stands there.
-    pub fn unmount(&mut self, machine: &Name, volume: u32)
+    pub(crate) fn unmount(&mut self, machine: &Name, volume: u32)
         ensures { self.new ≡ with_rows self.old (unmounted machine.now volume self.old.rows) }
     {
         drop_row(&mut self.rows, machine, volume);
     }
 
     /// Removes the rows of a machine.
-    pub fn unmount_all(&mut self, machine: &Name)
+    pub(crate) fn unmount_all(&mut self, machine: &Name)
         ensures { self.new ≡ with_rows self.old (unmounted_all machine.now self.old.rows) }
     {
         drop_rows(&mut self.rows, machine);

@@ -38,7 +38,12 @@ fn root_reply(alloc: Global, xid: u32, volume: u32, root: FileId) -> Result<Repl
 
 /// The reply to MNT: the handle of the root of a volume, or that there is no such path.
 #[tactic(auto, unfolding(crate::specs::Replies::mount_bytes))]
-pub fn mount_reply(alloc: Global, xid: u32, roots: &[FileId], volume: Option<u32>) -> Result<ReplyBytes, NoMemory>
+pub fn mount_reply(
+    alloc: Global,
+    xid: u32,
+    roots: &[FileId],
+    volume: Option<u32>,
+) -> Result<ReplyBytes, NoMemory>
     requires { IfSome volume (λ v. v < length roots.now) }
     ensures { IfOk result (λ bytes. bytes ≡ mount_bytes xid roots.now volume) }
 {
