@@ -5,3 +5,4 @@ pub mod AllCalls
 pub mod Replies
 pub mod Meaning
 pub mod Sending
+pub mod AllSending

@@ -1,5 +1,8 @@
 //! The arguments of all procedures (RFC 1094 2.2).
-ghost use Rattle.std.specs.Prelude.{◌≡◌, IfOk, OnErr};
+ghost use Rattle.std.specs.Prelude.{◌≡◌, ℕ, List, IfOk, OnErr};
+ghost use Rattle.files_model.specs.declared.call.Call.{Call};
+ghost use Rattle.nfs2_wire.specs.AllSending.{arguments_of, procedure_of, CanBeCalled};
+ghost use Rattle.nfs2_wire.specs.declared.all_calls.NfsCall.{NfsCall};
 ghost use Rattle.nfs2_wire.specs.AllCalls.{write_call, symlink_call, read_of, nfs_call, TakesMemory};
 
 use crate::arguments::write_args_of;
@@ -114,6 +117,9 @@ fn read_by_number(
 /// Reads the arguments of a call of any procedure, where so many volumes are open (RFC 1094 2.2). Memory can be wanting for a WRITE or a SYMLINK on one of them alone.
 pub fn read_arguments(alloc: Global, call: &RpcCall, volumes: u32) -> Result<NfsCall, NoMemory>
     ensures ok { IfOk result (λ read. read ≡ nfs_call call.now.procedure call.now.args volumes) }
+    // What is sent as a call on an open volume is read as that call, whatever follows it.
+    ensures sent { (volume : ℕ) (asked : Call) (rest : List ℕ) → CanBeCalled volumes volume asked → call.now.procedure ≡ procedure_of asked → call.now.args ≡ arguments_of volume asked rest →
+        IfOk result (λ read. read ≡ NfsCall.Call volume asked) }
     ensures err { OnErr result (TakesMemory (nfs_call call.now.procedure call.now.args volumes)) }
 {
     read_by_number(alloc, call.procedure, call.args.bytes(), volumes)
