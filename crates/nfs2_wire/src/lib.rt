@@ -22,3 +22,5 @@ pub use room::{Room, longest};
 
 #[cfg(test)]
 mod tests;
+#[cfg(test)]
+mod tests_of_arguments;
