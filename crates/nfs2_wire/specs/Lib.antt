@@ -3,6 +3,7 @@ pub mod Arguments
 pub mod Shapes
 pub mod AllCalls
 pub mod Replies
+pub mod Bounds
 pub mod Meaning
 pub mod Sending
 pub mod AllSending
