@@ -1,5 +1,5 @@
 -- The list of mounts: what stands in it, and how it changes.
-use Rattle.std.specs.Prelude.{ℕ, ◌≤◌, Bool, not, List, [], ◌∷◌, ◌++◌, length, filter, Option, Some, None, if◌then◌else◌, ◌&&◌, ◌||◌, nat_eq, nat_le}
+use Rattle.std.specs.Prelude.{ℕ, ◌≤◌, Bool, not, List, [], ◌∷◌, ◌++◌, length, filter, if◌then◌else◌, ◌&&◌, ◌||◌, nat_eq, nat_le}
 use Rattle.std.specs.List.{list_any, AllByRecursion}
 use Rattle.std.specs.Cmp.Lexicographic.{pointwise}
 use Rattle.mount1.specs.declared.list.Row.{Row}

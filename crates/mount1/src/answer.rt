@@ -2,7 +2,6 @@
 ghost use Rattle.std.specs.Prelude.{◌≡◌, ◌≤◌, ◌<◌, length, IfOk, IfSome, OnOk, OnErr};
 ghost use Rattle.mount1.specs.Paths.{volume_named, below, path_arg};
 ghost use Rattle.mount1.specs.Rows.{unmounted_all, with_rows};
-ghost use Rattle.mount1.specs.Replies.{mount_bytes};
 ghost use Rattle.mount1.specs.Calls.{after_mount, mnt, umnt, rows_after, mnt_reply, umnt_reply, reply_to};
 ghost use Rattle.xdr_rpc.specs.Refusals.{refusal};
 ghost use Rattle.xdr_rpc.specs.declared.refusal.Cause.{Cause};

@@ -1,5 +1,5 @@
 //! The list of mounts: at most 64 pairs of a machine and a volume.
-ghost use Rattle.std.specs.Prelude.{◌≡◌, ◌≤◌, [], length, IfOk, OnOk, OnErr};
+ghost use Rattle.std.specs.Prelude.{◌≡◌, ◌≤◌, [], IfOk, OnOk, OnErr};
 ghost use Rattle.std.specs.List.{list_any};
 ghost use Rattle.mount1.specs.Rows.{is_row, is_of, mounted, unmounted, unmounted_all, with_rows, AreRows};
 

@@ -1,5 +1,5 @@
 //! The paths of volumes.
-ghost use Rattle.std.specs.Prelude.{◌≡◌, ◌≤◌, length, IfSome};
+ghost use Rattle.std.specs.Prelude.{◌≡◌, ◌≤◌, IfSome};
 ghost use Rattle.xdr_rpc.specs.Words.{Gives};
 ghost use Rattle.mount1.specs.Paths.{path_of, path_arg, volume_named};
 

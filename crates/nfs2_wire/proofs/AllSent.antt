@@ -1,5 +1,5 @@
 -- The arguments of a call that was sent are read as that call, whatever follows them.
-use Rattle.std.proofs.Common.{◌≡◌, ℕ, ◌^◌, ◌<◌, ◌≤◌, true, false, ltb, eqb, List, [], ◌∷◌, ◌++◌, length, Option, Some, None, Ok, refl, sym, ap, ◌∙◌, append_assoc, arith}
+use Rattle.std.proofs.Common.{◌≡◌, ℕ, ◌^◌, ◌<◌, ◌≤◌, true, false, ltb, eqb, List, [], ◌∷◌, ◌++◌, length, Option, Some, None, Ok, refl, ap, ◌∙◌, append_assoc, arith}
 use Rattle.std.proofs.lemmas.Bool.{lt-ltb, eq-eqb}
 use Rattle.files_model.specs.declared.attributes.FileId.{FileId}
 use Rattle.files_model.specs.declared.attributes.Sattr.{Sattr}
@@ -8,12 +8,12 @@ use Rattle.files_model.specs.declared.call.Call.TheVariants as call
 use Rattle.xdr_rpc.specs.Words.{words, opaque_bytes}
 use Rattle.xdr_rpc.proofs.RoundTrip.{fixed_again, words_again, words_none, opaque_again}
 use Rattle.nfs2_wire.specs.declared.all_calls.NfsCall.TheVariants as read
-use Rattle.nfs2_wire.specs.Handles.{handle, handle_of, of_open, second}
+use Rattle.nfs2_wire.specs.Handles.{handle, handle_of, second}
 use Rattle.nfs2_wire.specs.Arguments.{getattr_args, read_args, write_args}
 use Rattle.nfs2_wire.specs.Shapes.{set_of, sattr, dirop, set_args, name_args, new_args, rename_args, link_args, symlink_args, part_args}
 use Rattle.nfs2_wire.specs.AllCalls.{opened, getattr_call, setattr_call, lookup_call, readlink_call, read_call, write_call, create_call, remove_call, rename_call, link_call, symlink_call, mkdir_call, rmdir_call, readdir_call, statfs_call, nfs_call}
 use Rattle.nfs2_wire.specs.Sending.{read_bytes, write_bytes, FileFits}
-use Rattle.nfs2_wire.specs.AllSending.{word_of, sattr_bytes, dirop_bytes, arguments_of, procedure_of, WordFits, SattrFits, DiropFits, CallFits, CanBeCalled}
+use Rattle.nfs2_wire.specs.AllSending.{word_of, sattr_bytes, dirop_bytes, arguments_of, procedure_of, WordFits, SattrFits, CanBeCalled}
 use Rattle.nfs2_wire.proofs.Handles.{handle_again}
 use Rattle.nfs2_wire.proofs.Lengths.{length-handle_of}
 

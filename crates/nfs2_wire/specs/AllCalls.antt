@@ -1,7 +1,6 @@
 -- What the arguments of a call of any procedure mean (RFC 1094 2.2). Bytes after the last argument are passed over.
 use Rattle.std.specs.Prelude.{ℕ, List, Option, Some, None, Result, Ok, Err, ◌==◌, if◌then◌else◌}
 use Rattle.files_model.specs.declared.attributes.FileId.{FileId}
-use Rattle.files_model.specs.declared.attributes.Sattr.{Sattr}
 use Rattle.files_model.specs.declared.call.Call.{Call}
 use Rattle.files_model.specs.declared.call.Call.TheVariants as call
 use Rattle.xdr_rpc.specs.Tests.{◌>>=◌}

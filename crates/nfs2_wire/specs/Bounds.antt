@@ -1,6 +1,6 @@
 -- Which replies a call can have, by their form and their bounds.
 use Rattle.std.specs.Prelude.{◌+◌, ◌≤◌, ℕ, length}
-use Rattle.std.specs.List.{sum_by, AllByRecursion}
+use Rattle.std.specs.List.{sum_by}
 use Rattle.files_model.specs.declared.call.Call.{Call}
 use Rattle.files_model.specs.declared.call.Call.TheVariants as call
 use Rattle.files_model.specs.declared.entries.Entry.{Entry}

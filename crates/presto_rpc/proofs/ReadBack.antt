@@ -1,5 +1,5 @@
 -- A reply or a control that was written is read again, whatever follows it.
-use Rattle.std.proofs.Common.{◌≡◌, ℕ, ◌+◌, ◌*◌, ◌/◌, ◌%◌, ◌^◌, ◌<◌, Bool, true, false, eqb, ◌&&◌, List, [], ◌∷◌, ◌++◌, Option, Some, None, Ok, refl, sym, ap, ◌∙◌, append_assoc, arith}
+use Rattle.std.proofs.Common.{◌≡◌, ℕ, ◌+◌, ◌*◌, ◌/◌, ◌%◌, ◌^◌, ◌<◌, true, false, eqb, ◌&&◌, List, [], ◌∷◌, ◌++◌, Some, None, refl, ap, ◌∙◌, append_assoc, arith}
 use Rattle.std.proofs.lemmas.Bool.{and_parts, eqb-true, eq-eqb}
 use Rattle.stable.specs.declared.battery.Battery.{Battery}
 use Rattle.stable.specs.declared.battery.Battery.TheVariants.{Good, Low}
@@ -12,15 +12,14 @@ use Rattle.xdr_rpc.specs.Words.{words}
 use Rattle.xdr_rpc.specs.Order.{refused}
 use Rattle.xdr_rpc.specs.Sending.{sent_as, CanBeServed}
 use Rattle.xdr_rpc.specs.Sending.{asks as sent_asks}
-use Rattle.xdr_rpc.proofs.RoundTrip.{words_none, words_again}
+use Rattle.xdr_rpc.proofs.RoundTrip.{words_again}
 use Rattle.xdr_rpc.proofs.Served.{served_again}
 use Rattle.presto_rpc.specs.declared.control.Control.{Control}
 use Rattle.presto_rpc.specs.declared.control.Control.TheVariants as asks
-use Rattle.presto_rpc.specs.declared.reply_reading.ControlReply.{ControlReply}
 use Rattle.presto_rpc.specs.declared.reply_reading.ControlReply.TheVariants as reply
 use Rattle.presto_rpc.specs.Controls.{volume_arg, control}
-use Rattle.presto_rpc.specs.Replies.{state_number, battery_number, answer_bytes, status_bytes, state_of, battery_of, reply_to, result_in, is_answer, asks_status, answer_in, status_in, said_in, said, reply_of, control_reply}
-use Rattle.presto_rpc.specs.Sending.{IsAsked, Fits, command_number, procedure_of, arguments_of, control_call, asked_bytes, control_bytes, asked_by, control_in}
+use Rattle.presto_rpc.specs.Replies.{state_number, battery_number, answer_bytes, status_bytes, state_of, battery_of, reply_to, result_in, is_answer, asks_status, answer_in, status_in, said_in, said, control_reply}
+use Rattle.presto_rpc.specs.Sending.{IsAsked, Fits, procedure_of, arguments_of, control_call, asked_bytes, control_bytes, asked_by, control_in}
 
 -- ---- replies
 

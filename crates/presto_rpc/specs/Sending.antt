@@ -1,5 +1,5 @@
 -- How a control is sent (docs/FORMATS.md, "Control program").
-use Rattle.std.specs.Prelude.{ℕ, ◌<◌, ◌^◌, List, [], ◌∷◌, Option, Some, None, Result, Ok, Err, ◌==◌, if◌then◌else◌}
+use Rattle.std.specs.Prelude.{ℕ, ◌<◌, ◌^◌, List, [], ◌∷◌, Option, Some, None, Ok, Err, ◌==◌, if◌then◌else◌}
 use Rattle.files_model.specs.declared.credential.Cred.{Cred}
 use Rattle.stable.specs.declared.command.Command.{Command}
 use Rattle.stable.specs.declared.command.Command.TheVariants as command

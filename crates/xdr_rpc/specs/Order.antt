@@ -1,5 +1,5 @@
 -- What a datagram is, in the order of the tests: the first that fails decides (RFC 1057 8 and 9; docs/FORMATS.md).
-use Rattle.std.specs.Prelude.{ℕ, List, [], ◌∷◌, Option, Some, None, Result, Ok, Err, ◌==◌, nat_lt, if◌then◌else◌}
+use Rattle.std.specs.Prelude.{ℕ, List, [], Option, Some, None, Result, Ok, Err, ◌==◌, nat_lt, if◌then◌else◌}
 use Rattle.files_model.specs.declared.credential.Cred.{Cred}
 use Rattle.xdr_rpc.specs.declared.call.RpcCall.{RpcCall}
 use Rattle.xdr_rpc.specs.declared.rpc.RpcRead.{RpcRead}

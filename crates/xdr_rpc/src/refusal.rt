@@ -1,7 +1,7 @@
 //! Replies that need no memory: refusals, and the reply of procedure 0.
 ghost use Rattle.std.specs.Prelude.{◌≡◌};
 ghost use Rattle.xdr_rpc.specs.Words.{words};
-ghost use Rattle.xdr_rpc.specs.Refusals.{refusal_words, refusal};
+ghost use Rattle.xdr_rpc.specs.Refusals.{refusal};
 ghost use Rattle.xdr_rpc.specs.declared.refusal.Cause.{Cause};
 
 use crate::short_reply::{ShortReply, reply_of_words};

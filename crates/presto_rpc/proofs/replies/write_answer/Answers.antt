@@ -1,4 +1,4 @@
-use Rattle.std.proofs.Common.{◌≡◌, List, ℕ, ◌++◌, ap, ◌∙◌}
+use Rattle.std.proofs.Common.{List, ℕ, ◌++◌, ap, ◌∙◌}
 use Rattle.presto_rpc.specs.Replies.{answer_bytes, control_reply}
 use Rattle.presto_rpc.proofs.ReadBack.{answer_again}
 use Rattle.presto_rpc.proofs.replies.write_answer.Goals as goal

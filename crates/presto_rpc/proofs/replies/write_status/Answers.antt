@@ -1,4 +1,4 @@
-use Rattle.std.proofs.Common.{◌≡◌, List, ℕ, ◌++◌, ap, ◌∙◌}
+use Rattle.std.proofs.Common.{List, ℕ, ◌++◌, ap, ◌∙◌}
 use Rattle.presto_rpc.specs.declared.control.Control.TheVariants.{Status}
 use Rattle.presto_rpc.specs.Replies.{control_reply}
 use Rattle.presto_rpc.proofs.ReadBack.{status_again}

@@ -1,4 +1,4 @@
-use Rattle.std.proofs.Common.{◌≡◌, List, ℕ, ◌++◌, ap, ◌∙◌}
+use Rattle.std.proofs.Common.{List, ℕ, ◌++◌, ap, ◌∙◌}
 use Rattle.presto_rpc.specs.Sending.{control_in}
 use Rattle.presto_rpc.proofs.ReadBack.{sent_again}
 use Rattle.presto_rpc.proofs.sending.write_control.Goals as goal

@@ -1,6 +1,6 @@
 use Rattle.std.proofs.Common.{◌≡◌, ◌≤◌, ℕ, length, sym, subst, ◌∙◌}
 use Rattle.std.proofs.lemmas.Result.{IfOk-weaker}
-use Rattle.nfs2_wire.specs.Replies.{bytes_of, longest_of}
+use Rattle.nfs2_wire.specs.Replies.{bytes_of}
 use Rattle.nfs2_wire.proofs.Lengths.{answer_fits}
 use Rattle.nfs2_wire.proofs.room.Room.for_call.Goals as goal
 
