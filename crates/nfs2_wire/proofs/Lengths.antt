@@ -2,15 +2,19 @@
 use Rattle.std.proofs.Common.{◌≡◌, ℕ, ◌+◌, ◌≤◌, List, [], ◌∷◌, length, length-append, arith}
 use Rattle.std.specs.List.{sum_by}
 use Rattle.std.proofs.lemmas.List.Concat.{length-flat_map}
+use Rattle.std.proofs.lemmas.List.Sums.{sum_by-le-sum_by}
 use Rattle.files_model.specs.declared.attributes.Attr.{Attr}
 use Rattle.files_model.specs.declared.attributes.FileId.{FileId}
+use Rattle.files_model.specs.declared.call.Call.{Call}
+use Rattle.files_model.specs.declared.call.Call.TheVariants as call
 use Rattle.files_model.specs.declared.entries.Entry.{Entry}
 use Rattle.files_model.specs.declared.reply.Reply.{Reply}
 use Rattle.files_model.specs.declared.reply.Reply.TheVariants as reply
 use Rattle.xdr_rpc.specs.Words.{padding, words}
 use Rattle.xdr_rpc.proofs.Sheets.{length-words, length-opaque_bytes}
 use Rattle.nfs2_wire.specs.Handles.{handle_of, mark}
-use Rattle.nfs2_wire.specs.Replies.{number_of, entry_bytes, result_bytes, bytes_of}
+use Rattle.nfs2_wire.specs.Replies.{number_of, entry_bytes, result_bytes, bytes_of, longest_of}
+use Rattle.nfs2_wire.specs.Bounds.{IsShort, entry_room, IsBounded, CanAnswer}
 
 -- bytes with their length and padding
 abbrev pub opaque_length : List ℕ → ℕ
@@ -58,12 +62,6 @@ length-bytes_of xid r volume =
     let head : List ℕ = xid ∷ 1 ∷ 0 ∷ 0 ∷ 0 ∷ 0 ∷ [] in
     omega (arith, length-append (words head) (result_bytes r volume), length-words head, length-result_bytes r volume)
 
--- a refusal or attributes alone, as WRITE answers
-abbrev pub IsShort : Reply → Type 0
-IsShort (reply.Refused status) = Unit {0}
-IsShort (reply.Attr attr) = Unit {0}
-IsShort _ = ⊥
-
 -- the replies of a WRITE fit in the room for one
 pub short_fits : (xid : ℕ) (r : Reply) (volume : ℕ) → IsShort r → length (bytes_of xid r volume) ≤ 96
 short_fits xid (reply.Refused status) volume short = omega (arith, length-bytes_of xid (reply.Refused status) volume)
@@ -78,3 +76,35 @@ short_fits xid (reply.Space blocks free) volume short = absurd short
 -- the replies of a READ fit in the room for one
 pub data_fits : (xid : ℕ) (attr : Attr) (bytes : List ℕ) (volume : ℕ) → length bytes ≤ 8192 → length (bytes_of xid (reply.Data attr bytes) volume) ≤ 8292
 data_fits xid attr bytes volume few = omega (arith, length-bytes_of xid (reply.Data attr bytes) volume, few)
+
+-- entries by their room
+rooms : (list : List Entry) → sum_by (λ e. length (entry_bytes e)) list ≤ sum_by entry_room list
+rooms list = sum_by-le-sum_by (λ e. length (entry_bytes e)) entry_room list (λ e. omega (arith, length-entry_bytes e))
+
+bounded_fits : (xid : ℕ) (r : Reply) (volume : ℕ) → IsBounded r → length (bytes_of xid r volume) ≤ 8292
+bounded_fits xid (reply.Refused status) volume is = omega (arith, length-bytes_of xid (reply.Refused status) volume)
+bounded_fits xid (reply.Attr attr) volume is = omega (arith, length-bytes_of xid (reply.Attr attr) volume)
+bounded_fits xid (reply.Handle file attr) volume is = omega (arith, length-bytes_of xid (reply.Handle file attr) volume)
+bounded_fits xid (reply.Text text) volume is = omega (arith, length-bytes_of xid (reply.Text text) volume, is)
+bounded_fits xid (reply.Data attr bytes) volume is = data_fits xid attr bytes volume is
+bounded_fits xid reply.Done volume is = omega (arith, length-bytes_of xid reply.Done volume)
+bounded_fits xid (reply.Entries list end) volume is = omega (arith, length-bytes_of xid (reply.Entries list end) volume, rooms list, is)
+bounded_fits xid (reply.Space blocks free) volume is = omega (arith, length-bytes_of xid (reply.Space blocks free) volume)
+
+-- each reply that a call can have fits in the room for one
+pub answer_fits : (xid : ℕ) (c : Call) (r : Reply) (volume : ℕ) → CanAnswer c r → length (bytes_of xid r volume) ≤ longest_of c
+answer_fits xid (call.Write file offset bytes) r volume can = short_fits xid r volume can
+answer_fits xid (call.Getattr file) r volume can = bounded_fits xid r volume can
+answer_fits xid (call.Setattr file set) r volume can = bounded_fits xid r volume can
+answer_fits xid (call.Lookup dir name) r volume can = bounded_fits xid r volume can
+answer_fits xid (call.Readlink file) r volume can = bounded_fits xid r volume can
+answer_fits xid (call.Read file offset count) r volume can = bounded_fits xid r volume can
+answer_fits xid (call.Create dir name set) r volume can = bounded_fits xid r volume can
+answer_fits xid (call.Remove dir name) r volume can = bounded_fits xid r volume can
+answer_fits xid (call.Rename from name to new_name) r volume can = bounded_fits xid r volume can
+answer_fits xid (call.Link file dir name) r volume can = bounded_fits xid r volume can
+answer_fits xid (call.Symlink dir name text set) r volume can = bounded_fits xid r volume can
+answer_fits xid (call.Mkdir dir name set) r volume can = bounded_fits xid r volume can
+answer_fits xid (call.Rmdir dir name) r volume can = bounded_fits xid r volume can
+answer_fits xid (call.Readdir dir cookie count) r volume can = bounded_fits xid r volume can
+answer_fits xid (call.Statfs file) r volume can = bounded_fits xid r volume can

@@ -1,3 +1,4 @@
 pub mod Handles
 pub mod Lengths
 pub mod Sent
+pub mod AllSent

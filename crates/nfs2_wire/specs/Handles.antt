@@ -26,3 +26,14 @@ handle bytes = do
 abbrev pub of_open : ℕ → Option Handle → Option Handle
 of_open volumes None = None
 of_open volumes (Some h) = if nat_lt h.volume volumes then Some h else None
+
+abbrev pub nowhere : FileId
+nowhere = record { ino = 0; generation = 0 }
+
+abbrev pub file_on : ℕ → Option Handle → FileId
+file_on volume None = nowhere
+file_on volume (Some h) = if h.volume == volume then h.file else nowhere
+
+-- the file that a second handle names, on the volume of the first: of another form or volume it stands as i-number 0
+abbrev pub second : ℕ → List ℕ → FileId
+second volume bytes = file_on volume (handle bytes)

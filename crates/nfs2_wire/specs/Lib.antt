@@ -1,5 +1,9 @@
 pub mod Handles
 pub mod Arguments
+pub mod Shapes
+pub mod AllCalls
 pub mod Replies
+pub mod Bounds
 pub mod Meaning
 pub mod Sending
+pub mod AllSending

@@ -17,7 +17,7 @@ pub enum NfsRead {
 }
 
 /// The length of a handle, in bytes (RFC 1094 2.3.3).
-const HANDLE: usize = 32;
+pub const HANDLE: usize = 32;
 
 /// The most bytes of one WRITE (RFC 1094 2.3, MAXDATA).
 const LONGEST_DATA: u32 = 8192;
@@ -29,8 +29,9 @@ const READ: u32 = 6;
 
 const WRITE: u32 = 8;
 
+/// A handle (RFC 1094 2.2.2).
 #[tactic(auto, unfolding(crate::specs::Arguments::getattr_args))]
-fn getattr_args_of(bytes: &[u8]) -> Option<&[u8]>
+pub fn getattr_args_of(bytes: &[u8]) -> Option<&[u8]>
     ensures { Gives (λ handle. handle.now) result (getattr_args bytes.now) }
 {
     let (handle, _rest) = fixed_at(bytes, HANDLE)?;
@@ -52,15 +53,17 @@ fn read_getattr(args: &[u8], volumes: u32) -> NfsRead
     }
 }
 
+/// The handle, the offset and the count of a READ (RFC 1094 2.2.7, readargs).
 #[derive(Clone, Copy)]
-struct ReadArgs<'a> {
-    handle: &'a [u8],
-    offset: u32,
-    count: u32,
+pub struct ReadArgs<'a> {
+    pub handle: &'a [u8],
+    pub offset: u32,
+    pub count: u32,
 }
 
+/// A handle, offset, count and totalcount.
 #[tactic(auto, unfolding(crate::specs::Arguments::read_args))]
-fn read_args_of(bytes: &[u8]) -> Option<ReadArgs<'_>>
+pub fn read_args_of(bytes: &[u8]) -> Option<ReadArgs<'_>>
     ensures { Gives (λ args. (args.handle.now, args.offset, args.count)) result (read_args bytes.now) }
 {
     let (handle, rest) = fixed_at(bytes, HANDLE)?;
@@ -93,15 +96,17 @@ fn read_read(args: &[u8], volumes: u32) -> NfsRead
     }
 }
 
+/// The handle, the offset and the bytes of a WRITE (RFC 1094 2.2.9, writeargs).
 #[derive(Clone, Copy)]
-struct WriteArgs<'a> {
-    handle: &'a [u8],
-    offset: u32,
-    bytes: &'a [u8],
+pub struct WriteArgs<'a> {
+    pub handle: &'a [u8],
+    pub offset: u32,
+    pub bytes: &'a [u8],
 }
 
+/// A handle, beginoffset, offset, totalcount and at most 8,192 bytes.
 #[tactic(auto, unfolding(crate::specs::Arguments::write_args))]
-fn write_args_of(bytes: &[u8]) -> Option<WriteArgs<'_>>
+pub fn write_args_of(bytes: &[u8]) -> Option<WriteArgs<'_>>
     ensures value { Gives (λ args. (args.handle.now, args.offset, args.bytes.now)) result (write_args bytes.now) }
     ensures bound { IfSome result (λ args. length args.bytes.now ≤ 8192) }
 {

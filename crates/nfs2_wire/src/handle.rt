@@ -2,7 +2,7 @@
 ghost use Rattle.std.specs.Prelude.{◌≡◌, ◌==◌, Some};
 ghost use Rattle.std.specs.List.{list_all};
 ghost use Rattle.xdr_rpc.specs.Words.{Gives};
-ghost use Rattle.nfs2_wire.specs.Handles.{handle, handle_of, of_open};
+ghost use Rattle.nfs2_wire.specs.Handles.{handle, handle_of, of_open, second};
 
 use byteorder::{BigEndian, ByteOrder};
 use files_model::FileId;
@@ -68,5 +68,25 @@ pub fn open_handle(bytes: &[u8], volumes: u32) -> Option<Handle>
         Some(handle)
     } else {
         None
+    }
+}
+
+/// The file that a second handle names, on the volume of the first. One of another form, or of another volume, stands as i-number 0.
+pub fn file_on_volume(bytes: &[u8], volume: u32) -> FileId
+    ensures { result ≡ second volume bytes.now }
+{
+    let nowhere = FileId {
+        ino: 0,
+        generation: 0,
+    };
+    match handle_from(bytes) {
+        None => nowhere,
+        Some(handle) => {
+            if handle.volume == volume {
+                handle.file
+            } else {
+                nowhere
+            }
+        }
     }
 }

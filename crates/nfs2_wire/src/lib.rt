@@ -1,15 +1,19 @@
 //! NFS version 2 on the wire: the arguments of calls, the bytes of replies, and file handles (RFC 1094).
 #![tactic(auto)]
 
+mod all_calls;
 mod arguments;
 mod attributes;
 mod datagram;
 mod entries;
 mod handle;
+mod on_volume;
 mod reply;
 mod results;
 mod room;
+mod shapes;
 
+pub use all_calls::{NfsCall, read_arguments};
 pub use arguments::{NfsRead, read_nfs};
 pub use datagram::{Datagram, read_datagram};
 pub use handle::handle_bytes;
@@ -18,3 +22,5 @@ pub use room::{Room, longest};
 
 #[cfg(test)]
 mod tests;
+#[cfg(test)]
+mod tests_of_arguments;

@@ -1,6 +1,8 @@
 //! Room for a reply.
-ghost use Rattle.std.specs.Prelude.{◌≡◌, ◌≤◌, [], IfOk};
-ghost use Rattle.nfs2_wire.specs.Replies.{longest_of};
+ghost use Rattle.std.specs.Prelude.{◌≡◌, ◌≤◌, ℕ, [], length, IfOk};
+ghost use Rattle.nfs2_wire.specs.Replies.{bytes_of, longest_of};
+ghost use Rattle.nfs2_wire.specs.Bounds.{CanAnswer};
+ghost use Rattle.files_model.specs.declared.reply.Reply.{Reply};
 
 use files_model::{Call, NoMemory};
 use std::alloc::Global;
@@ -31,6 +33,14 @@ impl Room {
     {
         let sheet = Sheet::with_room(alloc, longest as usize)?;
         Ok(Room { sheet })
+    }
+
+    /// Reserves room for the reply to a call: each reply that the call can have fits in it.
+    pub fn for_call(alloc: Global, call: &Call) -> Result<Room, NoMemory>
+        ensures room { IfOk result (λ room. room ≡ longest_of call.now) }
+        ensures enough { (xid : ℕ) (volume : ℕ) (reply : Reply) → CanAnswer call.now reply → IfOk result (λ room. length (bytes_of xid reply volume) ≤ room) }
+    {
+        Room::new(alloc, longest(call))
     }
 
     /// The room as a sheet to write on.

@@ -237,3 +237,14 @@ fn a_handle_has_its_mark_and_its_numbers(rt: HostRuntime) {
     assert_eq!(rt; handle_bytes(2, file), expected);
     assert_eq!(rt; longest(&Call::Getattr { file }), 8292);
 }
+
+#[test]
+fn room_for_a_call_is_found(rt: HostRuntime) -> Result<(), Fail> {
+    let file = FileId {
+        ino: 3,
+        generation: 1,
+    };
+    let room = Room::for_call(rt.alloc(), &Call::Getattr { file })?;
+    assert!(rt; room.into_sheet().into_reply().bytes().is_empty());
+    Ok(())
+}

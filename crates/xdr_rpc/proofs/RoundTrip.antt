@@ -30,7 +30,7 @@ fixed_again n bytes rest len =
     let long : ltb (length (bytes ++ rest)) n ≡ false = le-ltb _ _ (omega (arith, length-append bytes rest)) in
     rw (long, take_at bytes rest n len, drop_at bytes rest n len) refl
 
-padded_again : (bytes rest : List ℕ) → padded (length bytes) (bytes ++ (replicate (padding (length bytes)) 0 ++ rest)) ≡ Some (bytes, rest)
+pub padded_again : (bytes rest : List ℕ) → padded (length bytes) (bytes ++ (replicate (padding (length bytes)) 0 ++ rest)) ≡ Some (bytes, rest)
 unfolding padded
 padded_again bytes rest =
     let n : ℕ = padding (length bytes) in

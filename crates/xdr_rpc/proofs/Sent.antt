@@ -8,7 +8,7 @@ use Rattle.xdr_rpc.specs.declared.call.RpcCall.{RpcCall}
 use Rattle.xdr_rpc.specs.declared.header.Header.{Header}
 use Rattle.xdr_rpc.specs.Words.{word, words, opaque_bytes}
 use Rattle.xdr_rpc.specs.Calls.{header, is_served, auth, id_of, ids, groups, auth_unix, rpc_call}
-use Rattle.xdr_rpc.specs.Sending.{auth_bytes, unix_body, call_bytes, CanBeSent}
+use Rattle.xdr_rpc.specs.Sending.{auth_bytes, unix_body, sent_as, call_bytes, CanBeSent}
 use Rattle.xdr_rpc.proofs.Sheets.{length-words, length-opaque_bytes, padding_short}
 use Rattle.xdr_rpc.proofs.RoundTrip.{words_none, words_again, opaque_again}
 
@@ -27,10 +27,10 @@ groups_again gids rest few fits =
     rw (words_again (length gids) gids rest (omega arith), inside) (ids_again gids rest fits)
 
 -- one word alone
-word_alone : (n : ℕ) (rest : List ℕ) → n < 2 ^ 32 → word (words (n ∷ []) ++ rest) ≡ Some (n, rest)
+pub word_alone : (n : ℕ) (rest : List ℕ) → n < 2 ^ 32 → word (words (n ∷ []) ++ rest) ≡ Some (n, rest)
 word_alone n rest lt = words_again n [] rest lt ∙ ap (λ (after : List ℕ). Some (n, after)) (words_none rest)
 
-unix_again : (cred : Cred) (machine : List ℕ) → length machine ≤ 255 → cred.uid < 2 ^ 16 → cred.gid < 2 ^ 16 → length cred.gids ≤ 16 → AllByRecursion (λ g. g < 2 ^ 16) cred.gids
+pub unix_again : (cred : Cred) (machine : List ℕ) → length machine ≤ 255 → cred.uid < 2 ^ 16 → cred.gid < 2 ^ 16 → length cred.gids ≤ 16 → AllByRecursion (λ g. g < 2 ^ 16) cred.gids
     → auth_unix (unix_body cred machine) ≡ Some (cred, machine)
 unfolding auth_unix unix_body
 unix_again cred machine short user group few fits =
@@ -48,7 +48,7 @@ unix_again cred machine short user group few fits =
       id_fits cred.gid group,
     ) refl
 
-length-unix_body : (cred : Cred) (machine : List ℕ) → length machine ≤ 255 → length cred.gids ≤ 16 → length (unix_body cred machine) ≤ 400
+pub length-unix_body : (cred : Cred) (machine : List ℕ) → length machine ≤ 255 → length cred.gids ≤ 16 → length (unix_body cred machine) ≤ 400
 unfolding unix_body
 length-unix_body cred machine short few =
     let numbers : List ℕ = cred.uid ∷ cred.gid ∷ length cred.gids ∷ cred.gids in
@@ -90,7 +90,7 @@ served : (c : RpcCall) → CanBeSent c → is_served (header_of c) ≡ true
 served c can = rw (can.program, le-leb c.procedure 17 can.procedure) refl
 
 pub call_again : (c : RpcCall) → CanBeSent c → rpc_call (call_bytes c) ≡ Some c
-unfolding rpc_call call_bytes
+unfolding rpc_call sent_as
 call_again c can =
     let head : List ℕ = words (c.xid ∷ 0 ∷ 2 ∷ c.program ∷ 2 ∷ c.procedure ∷ []) in
     let body : List ℕ = unix_body c.cred c.machine in
@@ -99,8 +99,8 @@ call_again c can =
     ap rpc_call regrouped
     ∙ rw (
       header_again c (auth_bytes 1 body ++ (auth_bytes 0 [] ++ c.args)) can,
-      auth_again 1 body (auth_bytes 0 [] ++ c.args) (omega arith) (length-unix_body c.cred c.machine can.machine can.few_groups),
+      auth_again 1 body (auth_bytes 0 [] ++ c.args) (omega arith) (length-unix_body c.cred c.machine can.caller.machine can.caller.few_groups),
       auth_again 0 [] c.args (omega arith) (omega arith),
       served c can,
-      unix_again c.cred c.machine can.machine can.user can.group can.few_groups can.groups,
+      unix_again c.cred c.machine can.caller.machine can.caller.user can.caller.group can.caller.few_groups can.caller.groups,
     ) refl

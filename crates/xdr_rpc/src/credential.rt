@@ -8,7 +8,7 @@ use arrayvec::ArrayVec;
 use files_model::{Cred, Gids, Name};
 
 /// The longest body of a credential or verifier, in bytes (RFC 1057 8.2).
-const LONGEST_BODY: u32 = 400;
+pub const LONGEST_BODY: u32 = 400;
 
 /// The longest name of a machine, in bytes (RFC 1057 9.2).
 const LONGEST_MACHINE: u32 = 255;
@@ -17,7 +17,7 @@ const LONGEST_MACHINE: u32 = 255;
 const MOST_GROUPS: u32 = 16;
 
 /// The user and group of nobody, who stands for each number that files can't keep.
-const NOBODY: u16 = 65534;
+pub const NOBODY: u16 = 65534;
 
 /// A flavour and its body (RFC 1057 8.2, opaque_auth).
 #[derive(Clone, Copy)]

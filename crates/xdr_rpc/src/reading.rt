@@ -36,8 +36,9 @@ pub fn padding_after(len: usize) -> usize
     (4 - len % 4) % 4
 }
 
+/// The first `len` bytes, and the bytes after their padding (RFC 1014 3.9).
 #[tactic(auto, unfolding(crate::specs::Words::padded))]
-fn padded_at(bytes: &[u8], len: usize) -> Option<(&[u8], &[u8])>
+pub fn padded_at(bytes: &[u8], len: usize) -> Option<(&[u8], &[u8])>
     ensures value { Gives (λ x. (x.0.now, x.1.now)) result (padded len bytes.now) }
     ensures long { IfSome result (λ x. length x.0.now ≡ len) }
     ensures shorter { IfSome result (λ x. length x.1.now ≤ length bytes.now) }
