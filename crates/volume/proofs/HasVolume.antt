@@ -39,7 +39,7 @@ opens_read image sectors s long is =
     ∙ ap (λ (x : Super). has_sizes x.mark x.s_isize x.s_fsize sectors) (sym is)
 
 pub name_read : (image : Image) (s : Super) → s ≡ super_of (sector_at image 1) → s.s_fpack ≡ name_in image
-unfolding super_of
+unfolding super_of part
 name_read image s is = ap (λ (x : Super). x.s_fpack) is
 
 module _ (sectors : ℕ) (s : Super) (can : has_sizes s.mark s.s_isize s.s_fsize sectors ≡ true) where

@@ -1,8 +1,7 @@
 -- What the opening of a volume finds (docs/FORMATS.md, super-block).
 use Rattle.std.specs.Prelude.{◌≡◌, ℕ, true, false, List, Result, Ok, Err}
 use Rattle.files_model.specs.declared.attributes.FileId.{FileId}
-use Rattle.stable.specs.Store.{Image}
-use Rattle.v7_layout.specs.Numbers.{part}
+use Rattle.stable.specs.Store.{Image, name_in as name_of_super_block}
 use Rattle.v7_map.specs.Damage.{Sizes, passes}
 use Rattle.v7_map.specs.Frame.{frame}
 use Rattle.v7_map.specs.Image.{sector_at, inode_at}
@@ -10,9 +9,9 @@ use Rattle.volume.specs.declared.fault.OpenFault.{OpenFault}
 use Rattle.volume.specs.declared.fault.OpenFault.TheVariants as fault
 use Rattle.volume.specs.declared.opening.Title.{Title}
 
--- the name of the volume, bytes 434 to 439 of its super-block
+-- the name of the volume, as its super-block has it
 abbrev pub name_in : Image → List ℕ
-name_in image = part (sector_at image 1) 434 6
+name_in image = name_of_super_block (sector_at image 1)
 
 -- the root directory, inode 2, with its generation
 abbrev pub root_in : Image → FileId
