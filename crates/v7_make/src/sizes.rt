@@ -1,7 +1,7 @@
 // How large a volume may be.
 
 ghost use Rattle.std.specs.Prelude.{◌≡◌};
-ghost use Rattle.v7_make.specs.Sizes.{list_blocks, need_of, fitting};
+ghost use Rattle.v7_make.specs.Sizes.{list_blocks, fitting};
 
 use crate::fault::MakeFault;
 

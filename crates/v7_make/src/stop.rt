@@ -1,7 +1,7 @@
 // The super-block of a volume that is stopped cleanly.
 
 ghost use Rattle.std.specs.Prelude.{ℕ, ◌≡◌, ◌≢◌, ◌<◌, ◌≤◌, ◌+◌, true, false, set, get_or, OnOk, length};
-ghost use Rattle.index_sets.specs.Free.{is_free, count_free};
+ghost use Rattle.index_sets.specs.Free.{count_free};
 ghost use Rattle.stable.specs.Counts.{HasCause};
 ghost use Rattle.stable.specs.Moments.{LeavesOnly};
 ghost use Rattle.stable.specs.States.{SomePuts};

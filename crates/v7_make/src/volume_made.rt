@@ -1,13 +1,13 @@
 // A volume is made.
 
-ghost use Rattle.std.specs.Prelude.{ℕ, ◌≡◌, ◌<◌, ◌≤◌, ◌+◌, ◌-◌, ◌*◌, ◌/◌, IfOk};
+ghost use Rattle.std.specs.Prelude.{◌≡◌, ◌≤◌, ◌+◌, IfOk};
 ghost use Rattle.stable.specs.Moments.{LeavesOnly};
 ghost use Rattle.stable.specs.States.{SomePuts};
 ghost use Rattle.stable.specs.Store.{StaysOpenable, name_in};
 ghost use Rattle.v7_map.specs.Image.{sector_at};
 ghost use Rattle.v7_make.specs.Made.{IsAnswered, IsMade, KeepsOutside, make_puts};
 ghost use Rattle.v7_make.specs.Sets.{AreFrom};
-ghost use Rattle.v7_make.specs.Sizes.{list_blocks, need_of};
+ghost use Rattle.v7_make.specs.Sizes.{list_blocks};
 
 use crate::fault::MakeFault;
 use crate::put_fresh::put_volume;
