@@ -1,5 +1,5 @@
 -- The usage of the view is what the named inodes need.
-use Rattle.std.proofs.Common.{◌≡◌, ℕ, ◌+◌, ◌-◌, ◌/◌, ◌<◌, ◌≤◌, Bool, true, false, cond, not, ◌==◌, List, length, refl, sym, ap, subst, ◌∙◌, arith, ⊎_elim, ltb, leb, Some, None}
+use Rattle.std.proofs.Common.{◌≡◌, ℕ, ◌+◌, ◌-◌, ◌/◌, ◌<◌, ◌≤◌, Bool, true, false, cond, not, ◌==◌, refl, sym, ap, ◌∙◌, arith, ⊎_elim, ltb, leb, Some, None}
 use Rattle.std.specs.Prelude.{is_some}
 use Rattle.std.specs.FinMap.{get, empty}
 use Rattle.std.specs.List.{range_with_len, sum_by}

@@ -1,5 +1,5 @@
 -- What is seen of a volume that can be mended.
-use Rattle.std.specs.Prelude.{◌≡◌, ℕ, Bool, true, false, List, Option, Some, None, Result, Ok, Err, get_or, nat_lt, ◌==◌, ◌&&◌, ◌||◌, not, count_by}
+use Rattle.std.specs.Prelude.{◌≡◌, ℕ, Bool, true, false, Option, Some, None, Result, Ok, Err, get_or, nat_lt, ◌==◌, ◌&&◌, ◌||◌, not, count_by}
 use Rattle.std.specs.List.{range_with_len}
 use Rattle.std.specs.FinMap.{get}
 use Rattle.files_model.specs.declared.attributes.Kind.{Kind}

@@ -1,4 +1,4 @@
-use Rattle.std.proofs.Common.{rules, arith, ◌≡◌, ◌-◌, ◌∙◌, ◌==◌, sym, ap, subst}
+use Rattle.std.proofs.Common.{arith, ◌≡◌, ◌∙◌, ◌==◌, sym, ap, subst}
 use Rattle.files_model.specs.declared.attributes.Kind.TheVariants.{Regular, Directory, Link}
 use Rattle.files_model.specs.Space.{usage}
 use Rattle.stable.specs.Store.{Image}

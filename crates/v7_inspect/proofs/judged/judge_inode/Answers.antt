@@ -1,4 +1,4 @@
-use Rattle.std.proofs.Common.{rules, arith, ◌≡◌, ◌≢◌, ◌<◌, ◌∙◌, ◌==◌, ◌&&◌, ◌||◌, ℕ, cond, get_or, sym, ap, ⊎_elim}
+use Rattle.std.proofs.Common.{arith, ◌≡◌, ◌≢◌, ◌<◌, ◌∙◌, ◌||◌, ℕ, cond, get_or, ap, ⊎_elim}
 use Rattle.std.proofs.lemmas.Bool.{cases_eq}
 use Rattle.std.proofs.lemmas.List.{get_or_read}
 use Rattle.stable.specs.Store.{Image}
@@ -7,9 +7,7 @@ use Rattle.v7_map.specs.Image.{inode_at}
 use Rattle.v7_map.specs.Frame.{frame, head_of, address_of}
 use Rattle.v7_map.specs.Tree.{tree, is_named, links}
 use Rattle.v7_map.specs.Damage.{place_at}
-use Rattle.v7_damage.specs.Stored.{body_at}
 use Rattle.v7_damage.specs.Marks.{mark_at}
-use Rattle.v7_inspect.specs.Tidy.{is_tidy}
 use Rattle.v7_inspect.proofs.Mending.{strong_free, strong_used}
 use Rattle.v7_inspect.proofs.Tallies.{named-by}
 use Rattle.v7_inspect.proofs.Usages.{needs_read, needed_read}

@@ -1,10 +1,8 @@
-use Rattle.std.proofs.Common.{rules, arith, ◌≡◌, ◌-◌, ◌+◌, ◌∙◌, ℕ, length, sym, ap, subst}
+use Rattle.std.proofs.Common.{arith, ◌≡◌, ◌-◌, ◌∙◌, length, sym, subst}
 use Rattle.std.specs.List.{range_with_len, sum_by, list_all}
-use Rattle.files_model.specs.Space.{usage}
 use Rattle.stable.specs.Store.{Image}
 use Rattle.v7_map.specs.Frame.{frame}
 use Rattle.v7_map.specs.Tree.{tree}
-use Rattle.v7_map.specs.View.{view}
 use Rattle.v7_map.proofs.AnyFrame.{frame-IsFrame}
 use Rattle.v7_map.proofs.Undamaged.{weak_without_damage}
 use Rattle.v7_inspect.specs.Tidy.{is_strong_at}

@@ -1,8 +1,7 @@
-use Rattle.std.proofs.Common.{rules, arith, ◌≡◌, ◌≢◌, ◌+◌, ◌<◌, ◌∙◌, ◌==◌, ◌&&◌, ◌||◌, Bool, ℕ, cond, not, leb, length, subst, sym, ap, true, get_or}
-use Rattle.std.specs.List.{range_with_len, list_any}
+use Rattle.std.proofs.Common.{rules, arith, ◌≡◌, ◌+◌, ◌∙◌, ◌==◌, ◌&&◌, ◌||◌, cond, not, leb, sym, ap}
 use Rattle.v7_damage.specs.Marks.{mark_at}
 use Rattle.v7_damage.specs.Stored.{body_at}
-use Rattle.v7_inspect.specs.Usage.{is_at, sectors_in_size}
+use Rattle.v7_inspect.specs.Usage.{is_at}
 use Rattle.v7_inspect.proofs.Usages.{count_more, any_more, or_more}
 use Rattle.v7_inspect.proofs.needs.needs_of.Goals as goal
 
