@@ -111,7 +111,8 @@ fn refused_by(alloc: Global, words: &[u32; 29]) -> Result<Option<ShortReply>, No
     BigEndian::write_u32_into(words, &mut bytes);
     match read_rpc(alloc, &bytes)? {
         RpcRead::Refuse(reply) => Ok(Some(reply)),
-        _ => Ok(None),
+        RpcRead::Call(_call) => Ok(None),
+        RpcRead::NoReply => Ok(None),
     }
 }
 
@@ -152,7 +153,7 @@ fn replies_without_a_call(rt: HostRuntime) -> Result<(), Fail> {
         let answered = match read_few(rt.alloc(), words)? {
             RpcRead::Refuse(reply) => words_are(&reply, expected),
             RpcRead::NoReply => expected.is_empty(),
-            RpcRead::Call(_) => false,
+            RpcRead::Call(_call) => false,
         };
         assert!(rt; answered, "{} words", words.len());
     }
