@@ -1,5 +1,5 @@
 -- What is free on a volume.
-use Rattle.std.specs.Prelude.{◌≡◌, ◌≢◌, ℕ, ◌-◌, ◌^◌, ◌<◌, ◌≤◌, Bool, true, false, List, Some}
+use Rattle.std.specs.Prelude.{◌≡◌, ◌≢◌, ℕ, ◌+◌, ◌-◌, ◌^◌, ◌<◌, ◌≤◌, Bool, true, false, List, length, Some}
 use Rattle.std.specs.Ordering.{nat_cmp}
 use Rattle.std.specs.FinMap.{FinMap, get}
 use Rattle.index_sets.specs.Free.{is_free}
@@ -21,8 +21,10 @@ pub record IsFreeNumber (f : Frame) (generations : FinMap nat_cmp ℕ) (i : ℕ)
   pub unused : (f.head i).is_used ≡ false
   pub fresh : (g : ℕ) → get generations i ≡ Some g → g < 2 ^ 32 - 1
 
--- the sets have what is free of a frame with these generations, and nothing else
+-- The sets have what is free of a frame with these generations, and nothing else, and room for each block and each i-number.
 pub record AreSets (f : Frame) (generations : FinMap nat_cmp ℕ) (blocks inodes : List Bool) : Type 0 where
+  pub blocks_room : length blocks ≡ f.fsize
+  pub inodes_room : length inodes ≡ inodes_before f.isize + 1
   pub free : (b : ℕ) → is_free blocks b ≡ true → IsFreeBlock f b
   pub all_free : (b : ℕ) → IsFreeBlock f b → is_free blocks b ≡ true
   pub numbers : (i : ℕ) → is_free inodes i ≡ true → IsFreeNumber f generations i
