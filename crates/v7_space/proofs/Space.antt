@@ -1,8 +1,7 @@
 -- The free blocks are as many as the files leave.
-use Rattle.std.proofs.Common.{◌≡◌, ◌≢◌, ℕ, zero, suc, ◌+◌, ◌-◌, ◌*◌, ◌/◌, ◌%◌, ◌<◌, ◌≤◌, max, length, Bool, true, false, cond, not, ◌&&◌, ◌==◌, List, [], ◌∷◌, map, refl, sym, ap, subst, ◌∙◌, arith, ⊎_elim, eqb, eq-eqb, ltb, leb, Option, Some, None, is_some}
+use Rattle.std.proofs.Common.{◌≡◌, ◌≢◌, ℕ, zero, suc, ◌+◌, ◌-◌, ◌*◌, ◌/◌, ◌%◌, ◌<◌, ◌≤◌, length, Bool, true, false, cond, not, ◌&&◌, ◌==◌, List, [], ◌∷◌, map, refl, sym, ap, subst, ◌∙◌, arith, ⊎_elim, eqb, eq-eqb, ltb, leb, Option, Some, None, is_some}
 use Rattle.std.proofs.lemmas.Bool.{cases_eq, cases_lt, cases_Bool, ne_eqb, lt-ltb, le-ltb, leb-true, le-leb}
 use Rattle.std.proofs.lemmas.List.Sums.{sum_by-cons}
-use Rattle.std.proofs.lemmas.List.{get_or_past}
 use Rattle.index_sets.specs.Free.{is_free, count_free}
 use Rattle.std.specs.List.{range_with_len, count_by, sum_by, list_any}
 use Rattle.std.specs.FinMap.{get, empty}
@@ -18,7 +17,7 @@ use Rattle.v7_map.specs.Frame.{Frame, Place, Body, Single, Double, CanHold, is_d
 use Rattle.v7_map.specs.Tree.{tree, is_named}
 use Rattle.v7_map.specs.Weak.{IsWeak, IsStrong}
 use Rattle.v7_map.specs.View.{view, files_of, node_at, body_of, body_at, held, kind_of}
-use Rattle.v7_space.specs.Free.{IsFreeBlock, AreFree}
+use Rattle.v7_sets.specs.Sets.{IsFreeBlock, AreSetsOf}
 use Rattle.v7_map.proofs.AnyFrame.{frame-IsFrame}
 use Rattle.v7_map.proofs.Frames.{and_left, and_right}
 use Rattle.v7_map.proofs.Used.{named_used}
@@ -242,15 +241,15 @@ module _ (image : Image) (strong : IsStrong (frame image)) (b w : ℕ) (is_b : b
       let same = place_once (x % 139) (y % 139) (omega arith) (omega arith) s.1 in let row' : x / 139 + 1 ≡ y / 139 + 1 = s.0 in absurd (omega arith))
 
   -- a data block is free, or stands at a place
-  module _ (has : ℕ → Bool) (free' : AreFree f has) where
+  module _ (has : ℕ → Bool) (sound : (a : ℕ) → has a ≡ true → IsFreeBlock f a) (all : (a : ℕ) → IsFreeBlock f a → has a ≡ true) where
     has-taken : (a : ℕ) → f.isize ≤ a → a < f.fsize → has a ≡ not (is_listed a taken)
     unfolding taken block_at number
     has-taken a low high = ⊎_elim
         (λ (h : is_listed a taken ≡ true). let r = among_map_found block_at a (w * 0) (w * inodes) h in
-        let not_free : has a ≡ false = ⊎_elim (λ (y : has a ≡ true). absurd ((free'.free a y).unheld (r.0 / 139 + 1) (place (r.0 % 139)) r.3)) (λ (n : has a ≡ false). n) (cases_Bool (has a)) in
+        let not_free : has a ≡ false = ⊎_elim (λ (y : has a ≡ true). absurd ((sound a y).nowhere (r.0 / 139 + 1) (place (r.0 % 139)) r.3)) (λ (n : has a ≡ false). n) (cases_Bool (has a)) in
         not_free ∙ sym (ap not h))
         (λ (h : is_listed a taken ≡ false).
-        free'.each a (record { low = low; high = high; unheld = λ i p e. stands i p e (is_listed a taken) refl h }) ∙ sym (ap not h))
+        all a (record { low = low; high = high; nowhere = λ i p e. stands i p e (is_listed a taken) refl h }) ∙ sym (ap not h))
         (cases_Bool (is_listed a taken))
       where
         positive : a ≢ 0
@@ -299,19 +298,11 @@ module _ (image : Image) (strong : IsStrong (frame image)) (b w : ℕ) (is_b : b
         omega arith
       where
         not_free : (a : ℕ) → (IsFreeBlock f a → ⊥) → has a ≡ false
-        not_free a no' = ⊎_elim (λ (y : has a ≡ true). absurd (no' (free'.free a y))) (λ (n : has a ≡ false). n) (cases_Bool (has a))
+        not_free a no' = ⊎_elim (λ (y : has a ≡ true). absurd (no' (sound a y))) (λ (n : has a ≡ false). n) (cases_Bool (has a))
 
 -- where there is nothing to mend, as many blocks are free as the files leave
-pub free_blocks-counted : (image : Image) (has : ℕ → Bool) (size : ℕ) → IsStrong (frame image) → AreFree (frame image) has → (frame image).fsize ≤ size → count_by has (range_with_len 0 size) ≡ free (view image)
-free_blocks-counted image has size strong free' le = free-counted image strong 138 139 refl refl has free' size le
-
--- the same of a list that says of each number whether it is free
-pub listed_blocks-counted : (image : Image) (blocks : List Bool) → IsStrong (frame image) → AreFree (frame image) (is_free blocks) → count_free blocks ≡ free (view image)
-listed_blocks-counted image blocks strong are =
-    let fsize : ℕ = (frame image).fsize in
-    let n : ℕ = length blocks in
-    let size : ℕ = max n fsize in
-    let all = free_blocks-counted image (is_free blocks) size strong are (omega arith) in
-    let parts = count_parts (is_free blocks) 0 n (size - n) size (omega arith) in
-    let past = count_none (is_free blocks) (0 + n) (size - n) (λ b l u. get_or_past blocks b false (omega arith)) in
-    let listed = count_listed (λ b. b) false blocks in omega arith
+pub free_blocks-counted : (image : Image) (blocks inodes : List Bool) → IsStrong (frame image) → AreSetsOf image blocks inodes → count_free blocks ≡ free (view image)
+free_blocks-counted image blocks inodes strong are =
+    let room = are.blocks_room in
+    let listed = count_listed (λ b. b) false blocks in
+    let all = free-counted image strong 138 139 refl refl (is_free blocks) are.free are.all_free (length blocks) (omega arith) in omega arith
