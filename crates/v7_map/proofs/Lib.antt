@@ -7,7 +7,6 @@ pub mod Used
 pub mod AnyFrame
 pub mod Nodes
 pub mod Writes
-pub mod WithNode
 pub mod Bodies
 pub mod Prefixes
 pub mod Puts
