@@ -1,5 +1,5 @@
 -- Puts are added to a plan.
-use Rattle.std.proofs.Common.{◌≡◌, ◌≢◌, ℕ, min, get_or, ◌+◌, ◌<◌, ◌≤◌, List, [], ◌∷◌, ◌++◌, length, subst, sym, arith, length-append, ◌∙◌}
+use Rattle.std.proofs.Common.{◌≡◌, ◌≢◌, ℕ, get_or, ◌+◌, ◌<◌, ◌≤◌, List, [], ◌∷◌, ◌++◌, length, subst, sym, arith, length-append}
 use Rattle.std.specs.List.{AllByRecursion}
 use Rattle.v7_map.proofs.Puts.{all_append}
 use Rattle.plan_file.specs.Contents.{Fits}

@@ -1,5 +1,5 @@
 -- What is free once a batch is put.
-use Rattle.std.proofs.Common.{◌≡◌, ◌≢◌, ℕ, ◌+◌, ◌-◌, ◌*◌, ◌≤◌, ◌<◌, Bool, true, false, cond, ◌&&◌, ◌==◌, not, List, length, refl, sym, ap, subst, ◌∙◌, arith, ⊎_elim, leb, Option, Some, None, is_some}
+use Rattle.std.proofs.Common.{◌≡◌, ◌≢◌, ℕ, ◌+◌, ◌≤◌, Bool, true, false, cond, ◌&&◌, ◌==◌, not, List, length, refl, sym, ap, subst, ◌∙◌, arith, ⊎_elim, leb, Some, None, is_some}
 use Rattle.std.proofs.lemmas.Bool.{cases_eq, le-leb}
 use Rattle.std.specs.FinMap.{get}
 use Rattle.v7_layout.specs.Numbers.{field}

@@ -1,8 +1,7 @@
 -- What was read of a file is what its image has.
-use Rattle.std.proofs.Common.{◌≡◌, ◌≢◌, ℕ, zero, suc, ◌+◌, ◌-◌, ◌*◌, ◌<◌, ◌≤◌, min, Bool, true, false, cond, not, ◌&&◌, ◌==◌, List, [], ◌∷◌, length, get_or, unwrap_or, refl, sym, ap, ◌∙◌, arith, ⊎_elim, ltb, leb, Option, Some, None, is_some}
+use Rattle.std.proofs.Common.{◌≡◌, ◌≢◌, ℕ, ◌-◌, ◌*◌, ◌<◌, ◌≤◌, min, Bool, true, false, cond, not, ◌&&◌, ◌==◌, List, [], length, get_or, unwrap_or, refl, sym, ap, ◌∙◌, arith, ⊎_elim, ltb, leb, Option, Some, None, is_some}
 use Rattle.std.proofs.lemmas.Bool.{cases_eq, cases_lt, lt-ltb, le-leb, leb-true, eqb-true}
 use Rattle.std.proofs.lemmas.List.{drop-replicate}
-use Rattle.std.specs.List.{range_with_len, count_by}
 use Rattle.std.specs.FinMap.{get}
 use Rattle.v7_layout.specs.declared.inode.Inode.{Inode}
 use Rattle.files_model.specs.declared.attributes.FileId.{FileId}
@@ -20,7 +19,6 @@ use Rattle.v7_map.specs.View.{view, files_of, node_at}
 use Rattle.v7_map.specs.Weak.{IsStrong}
 use Rattle.v7_map.proofs.AnyFrame.{frame-IsFrame}
 use Rattle.v7_map.proofs.Bodies.{view-IsBody, view-sector}
-use Rattle.v7_space.proofs.Counting.{count-cons, count_none, count_shift}
 use Rattle.v7_map.proofs.Frames.{and_left, and_right}
 use Rattle.v7_map.proofs.Ranges.{address-inside}
 use Rattle.v7_space.proofs.Space.{free_blocks-counted, held-block, map_there, is_block}
@@ -33,7 +31,6 @@ use Rattle.plan_file.specs.Contents.{old_content}
 use Rattle.plan_file.specs.Draft.{IsDraftOf}
 use Rattle.v7_map.specs.Found.{IsFile}
 use Rattle.plan_file.specs.Free.{count_from}
-use Rattle.index_sets.specs.Free.{is_free}
 use Rattle.plan_file.specs.Places.{place_within, map_place, ArePlaces}
 use Rattle.plan_file.specs.Started.{IsFirst}
 use Rattle.plan_file.proofs.Batch.{held_regular}

@@ -1,5 +1,5 @@
 -- Addresses read from a block of addresses.
-use Rattle.std.proofs.Common.{◌≡◌, ◌≢◌, ℕ, zero, suc, ◌*◌, ◌<◌, ◌≤◌, Bool, true, false, cond, ◌==◌, ◌&&◌, List, [], ◌∷◌, ◌++◌, ◌+◌, ◌-◌, take, drop, length, length-take, length-drop, replicate, get_or, set, refl, sym, ap, subst, ◌∙◌, arith, ⊎_elim, leb, ltb, length-set, get_or-set_same, get_or-set_other, eq-eqb}
+use Rattle.std.proofs.Common.{◌≡◌, ◌≢◌, ℕ, zero, suc, ◌*◌, ◌<◌, ◌≤◌, Bool, true, false, cond, ◌&&◌, List, [], ◌∷◌, ◌++◌, ◌+◌, ◌-◌, take, drop, length, length-take, length-drop, replicate, get_or, set, refl, sym, ap, subst, ◌∙◌, arith, ⊎_elim, leb, ltb, length-set, get_or-set_same, get_or-set_other, eq-eqb}
 use Rattle.std.proofs.lemmas.Bool.{cases_eq, cases_lt, leb-true, le-ltb}
 use Rattle.v7_map.proofs.Frames.{and_left, and_right}
 use Rattle.plan_file.specs.Places.{place_within, stored_place}

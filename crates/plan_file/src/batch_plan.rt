@@ -140,7 +140,13 @@ fn plan_found<S: Stable>(
         batch,
         replies.as_slice(),
     )?;
-    take_new(&mut sets.blocks, &places, &draft.held, draft.mapped, &target);
+    take_new(
+        &mut sets.blocks,
+        &places,
+        &draft.held,
+        draft.mapped,
+        &target,
+    );
     Ok(Planned { plan, replies })
 }
 

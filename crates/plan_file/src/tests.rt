@@ -1,74 +1,65 @@
 //! Batches on a small volume over a store in memory.
 
-ghost use Rattle.std.specs.Prelude.{◌≡◌, ◌≤◌, ◌<◌, ℕ, true, IfOk};
-ghost use Rattle.v7_layout.specs.Written.{AddressesFit};
-ghost use Rattle.index_sets.specs.Free.{is_free};
+ghost use Rattle.std.specs.Prelude.{◌≡◌, ◌≤◌, true, length};
+ghost use Rattle.plan_file.specs.Free.{AreSpare};
 
-use crate::batch_plan::plan_writes;
-use crate::free_set::FreeSet;
-use crate::memory::{Memory, SECTORS};
-use files_model::{Cred, Data, FileId, Gids, NoMemory, Reply, Stat, WriteItem};
+use crate::batch_plan::{Planned, plan_writes};
+use files_model::{Cred, Data, FileId, Gids, Reply, Stat, WriteItem};
+use index_sets::FreeSet;
+use stable::Stable;
 use std::alloc::Global;
 use std::test::Fail;
-use v7_layout::{Inode, Super};
+use store_mem::Memory;
+use v7_layout::{Inode, Record, Super};
+use v7_sets::Sets;
 
 const FILE: FileId = FileId {
     ino: 3,
     generation: 1,
 };
 
-// An empty regular file.
-fn file() -> Inode
-    ensures { AddressesFit result }
+// Whether blocks are past the super-block and within a store.
+fn is_spare(blocks: &FreeSet, sectors: u32) -> bool
+    ensures { result ≡ true → AreSpare sectors blocks.now }
 {
-    Inode {
-        mode: 0o100_644,
-        nlink: 1,
-        uid: 100,
-        gid: 100,
-        size: 0,
-        direct: [0; 10],
-        single: 0,
-        double: 0,
-        generation: 1,
-        atime: 1000,
-        mtime: 1000,
-        ctime: 1000,
+    if blocks.lowest_from(sectors.min(1_048_576)).is_some() {
+        return false;
+    }
+    match blocks.lowest_from(0) {
+        Some(lowest) => lowest >= 2,
+        None => true,
     }
 }
 
-// A volume of 64 sectors, whose data blocks begin at 4.
-fn store() -> Memory {
-    let mut sectors = [[0; 512]; SECTORS];
-    let mut super_block = Super::read(&[0; 512]);
+// A volume of 64 sectors, whose data blocks begin at 4, and whose file 3 is empty.
+fn volume(alloc: Global) -> Result<Memory, Fail> {
+    let mut store = Memory::new(alloc, &[[0; 512]; 64]).map_err(|_| "memory")?;
+    let mut sector = [0; 512];
+    let mut super_block = Super::read(&sector);
     super_block.s_isize = 4;
     super_block.s_fsize = 64;
     super_block.mark = 1;
-    super_block.write(&mut sectors[1]);
-    let mut inode = [0; 64];
-    file().write(&mut inode);
-    sectors[2][128..192].copy_from_slice(&inode);
-    Memory::new(sectors)
+    super_block.write(&mut sector);
+    store.put(1, &sector).map_err(|_| "store")?;
+    let mut inode = Inode::read(&[0; 64]);
+    inode.mode = 0o100_644;
+    inode.nlink = 1;
+    inode.uid = 100;
+    inode.gid = 100;
+    inode.generation = 1;
+    let mut sector = [0; 512];
+    inode.write(&mut sector[128..192]);
+    store.put(2, &sector).map_err(|_| "store")?;
+    Ok(store)
 }
 
-// Blocks 10, 20 and 30 are free.
-fn three_free(alloc: Global) -> Result<FreeSet, NoMemory>
-    ensures { IfOk result (λ set. (a : ℕ) → is_free set a ≡ true → (2 ≤ a) × (a < 64)) }
-{
-    let mut bits = [false; 64];
-    bits[10] = true;
-    bits[20] = true;
-    bits[30] = true;
-    FreeSet::of(alloc, &bits)
-}
-
-// Block 10 is free.
-fn one_free(alloc: Global) -> Result<FreeSet, NoMemory>
-    ensures { IfOk result (λ set. (a : ℕ) → is_free set a ≡ true → (2 ≤ a) × (a < 64)) }
-{
-    let mut bits = [false; 64];
-    bits[10] = true;
-    FreeSet::of(alloc, &bits)
+// These blocks are free.
+fn free(alloc: Global, blocks: &[u32]) -> Result<Sets, Fail> {
+    let mut sets = Sets::new(alloc, 64, 17).map_err(|_| "memory")?;
+    for block in blocks {
+        sets.blocks.give(*block);
+    }
+    Ok(sets)
 }
 
 // A write of one byte by the owner.
@@ -84,15 +75,26 @@ fn one_byte(alloc: Global, offset: u32) -> Result<WriteItem, Fail> {
     })
 }
 
+// A batch at second 2000.
+fn plan(
+    alloc: Global,
+    store: &mut Memory,
+    sets: &mut Sets,
+    batch: &[WriteItem],
+) -> Result<Planned, Fail> {
+    if batch.len() > 16 || !is_spare(&sets.blocks, store.sectors()) {
+        return Err("no batch".into());
+    }
+    Ok(plan_writes(alloc, store, sets, FILE, batch, 2000).map_err(|_| "not planned")?)
+}
+
 #[test]
 fn the_last_byte_of_the_greatest_file_takes_two_blocks(rt: HostRuntime) -> Result<(), Fail> {
     let alloc = rt.alloc();
-    let mut store = store();
-    let mut blocks = three_free(alloc).map_err(|_| "memory")?;
+    let mut store = volume(alloc)?;
+    let mut sets = free(alloc, &[30, 10, 20])?;
     let batch = [one_byte(alloc, 70_655)?, one_byte(alloc, 70_656)?];
-    let planned = plan_writes(alloc, &mut store, &mut blocks, FILE, &batch, 2000).map_err(
-        |_| "not planned",
-    )?;
+    let planned = plan(alloc, &mut store, &mut sets, &batch)?;
     let replies = planned.replies.as_slice();
     assert!(rt; replies.len() == 2);
     assert!(rt;
@@ -104,21 +106,19 @@ fn the_last_byte_of_the_greatest_file_takes_two_blocks(rt: HostRuntime) -> Resul
     assert!(rt; puts[0].0 == 10 && puts[1].0 == 20 && puts[2].0 == 2);
     let data = puts[0].1;
     let addresses = puts[1].1;
-    assert!(rt; data[511] == b'X');
-    assert!(rt; addresses[508] == 10 && addresses[509] == 0);
-    assert!(rt; blocks.count() == 1);
+    assert!(rt; data[510] == 0 && data[511] == b'X');
+    assert!(rt; addresses[507] == 0 && addresses[508] == 10 && addresses[509] == 0);
+    assert!(rt; sets.blocks.count() == 1 && sets.blocks.has(30));
     Ok(())
 }
 
 #[test]
 fn one_free_block_is_too_few_for_a_block_of_addresses(rt: HostRuntime) -> Result<(), Fail> {
     let alloc = rt.alloc();
-    let mut store = store();
-    let mut blocks = one_free(alloc).map_err(|_| "memory")?;
+    let mut store = volume(alloc)?;
+    let mut sets = free(alloc, &[10])?;
     let batch = [one_byte(alloc, 5120)?, one_byte(alloc, 5119)?];
-    let planned = plan_writes(alloc, &mut store, &mut blocks, FILE, &batch, 2000).map_err(
-        |_| "not planned",
-    )?;
+    let planned = plan(alloc, &mut store, &mut sets, &batch)?;
     let replies = planned.replies.as_slice();
     assert!(rt; replies.len() == 2);
     assert!(rt; matches!(&replies[0], Reply::Refused(Stat::Nospc)));

@@ -1,4 +1,4 @@
-use Rattle.std.proofs.Common.{arith, ◌≡◌, ◌+◌, ◌≤◌, ◌<◌, ℕ, ap, length}
+use Rattle.std.proofs.Common.{arith, ℕ, ap, length}
 use Rattle.plan_file.specs.Accepted.{kept_of}
 use Rattle.plan_file.proofs.Adding.{fits-one, fits-put, fits-all}
 use Rattle.plan_file.proofs.batch_plan.add_puts.Goals as goal

@@ -1,4 +1,4 @@
-use Rattle.std.proofs.Common.{arith, ◌≡◌, ◌≢◌, ◌≤◌, ◌<◌, min, not, length, true, false, refl, sym, ap, subst, ◌∙◌, ℕ, get_or}
+use Rattle.std.proofs.Common.{arith, ◌≡◌, ◌≢◌, ◌≤◌, ◌<◌, min, not, length, true, false, refl, sym, ap, subst, ◌∙◌, ℕ}
 use Rattle.std.specs.List.{list_any}
 use Rattle.files_model.specs.declared.attributes.Attr.{Attr}
 use Rattle.files_model.specs.Batch.{touches}

@@ -1,4 +1,4 @@
-use Rattle.std.proofs.Common.{rules, arith, ◌≡◌, ◌≢◌, ◌+◌, ◌∷◌, ◌++◌, [], get_or, sym, ap, ◌∙◌, append_assoc, true, false}
+use Rattle.std.proofs.Common.{rules, arith, ◌≡◌, ◌+◌, ◌∷◌, ◌++◌, [], get_or, sym, ap, ◌∙◌, append_assoc, true, false}
 use Rattle.std.proofs.lemmas.List.{append-nil}
 use Rattle.std.specs.List.{range_with_len, list_any}
 use Rattle.files_model.specs.Batch.{touches}

@@ -1,4 +1,4 @@
-use Rattle.std.proofs.Common.{◌≡◌, ◌≢◌, ◌/◌, ◌∷◌, ◌++◌, [], get_or, sym, ap, ◌∙◌, true, false, ℕ}
+use Rattle.std.proofs.Common.{◌≡◌, ◌/◌, ◌∷◌, ◌++◌, [], get_or, sym, ap, ◌∙◌, true, false, ℕ}
 use Rattle.std.proofs.lemmas.List.{append-nil}
 use Rattle.stable.specs.Store.{Image}
 use Rattle.plan_file.specs.Accepted.{kept_of}

@@ -1,5 +1,5 @@
-use Rattle.std.proofs.Common.{◌≡◌, min, ap, get_or, ◌∙◌, ◌≤◌, ◌<◌, arith, subst, ℕ}
-use Rattle.plan_file.specs.Places.{place_within, ArePlaces, AreWithin}
+use Rattle.std.proofs.Common.{◌≡◌, min, ap, get_or, ◌∙◌, subst, ℕ}
+use Rattle.plan_file.specs.Places.{ArePlaces, AreWithin}
 use Rattle.plan_file.proofs.Listed.{within_low, none-through}
 use Rattle.plan_file.proofs.Reading.{places-read}
 use Rattle.plan_file.proofs.places.file_places.Goals as goal
