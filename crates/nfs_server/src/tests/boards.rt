@@ -1,10 +1,12 @@
 //! Runs over a disk with a board of 64 buffers in front of it.
 ghost use Rattle.v7_layout.specs.Written.{AddressesFit};
 
-use crate::tests::outside::{cells, datagram, has_said, has_sent, post_at, rig_of, served_by};
+use crate::tests::outside::{
+    cells, datagram, has_said, has_sent, has_sent_all, host_at, post_at, rig_of, run, served_by,
+};
 use crate::tests::test_volume::{
     CALL, CREDENTIAL, FRESH, HANDLE, REPLY, WRITE, WRITTEN, disk_of, file, has_disk, is_volume,
-    rig, worked_write,
+    rig, status_reply, worked_reply, worked_write,
 };
 use nfs_worker::taking::turn;
 use nfs_worker::{ServerPass, Turn};
@@ -344,6 +346,79 @@ fn a_low_battery_sends_all_to_the_disk_turn_by_turn(rt: HostRuntime) -> Result<(
     assert!(rt; shown.state == State::Up && shown.polls == 2 && shown.tries == 3);
     let rig = cells.volume.into_store().into_rig().crash(false, 7);
     assert!(rt; is_volume(alloc, &rig, WRITTEN)?);
+    Ok(())
+}
+
+// The device call after the three flushes. Before them the opening makes 68 calls, as above, and the WRITE reads the
+// super-block, the inode and two sectors of data, and stores three buffers and their words; a flush reads a buffer, writes a
+// sector, and clears a word.
+const AFTER_FLUSHES: u64 = 88;
+
+// The GETATTR (RFC 1094 2.2.2) of the file.
+fn getattr(alloc: Global) -> Result<Vec<u8>, Fail> {
+    let mut bytes = Vec::new(alloc);
+    add_words(&mut bytes, &CALL)?;
+    add_words(&mut bytes, &[1])?;
+    add_words(&mut bytes, &CREDENTIAL)?;
+    add_words(&mut bytes, &HANDLE)?;
+    add_words(&mut bytes, &[1, 0, 0, 0, 0])?;
+    Ok(bytes)
+}
+
+// The WRITE at second 2000, three turns without a datagram at the next second, at which the battery is low, and a GETATTR
+// at which the rig is cut. So the Down at the end can flush nothing.
+fn cut_with_a_low_battery(alloc: Global) -> Result<(u8, crate::tests::outside::Host), Fail> {
+    let mut rig = small(alloc)?;
+    rig.low_from(2);
+    rig.stop_at(AFTER_FLUSHES, false);
+    let mut events = Vec::new(alloc);
+    events.push(datagram(&worked_write()))?;
+    for _ in 0..3 {
+        events.push(MemEvent::Idle)?;
+    }
+    events.push(datagram(&getattr(alloc)?))?;
+    let mut host = host_at(alloc, rig, 2000, events, &[2000, 2001])?;
+    let status = run(alloc, &["d:b"], &mut host)?;
+    Ok((status, host))
+}
+
+#[test]
+fn what_a_low_battery_sent_to_the_disk_outlasts_the_board(rt: HostRuntime) -> Result<(), Fail> {
+    let alloc = rt.alloc();
+    let (status, host) = cut_with_a_low_battery(alloc)?;
+    assert_eq!(rt; status, 0);
+    let mut replies = Vec::new(alloc);
+    replies.push(Vec::from_slice(alloc, &worked_reply())?)?;
+    replies.push(Vec::from_slice(alloc, &status_reply(5))?)?;
+    assert!(rt; has_sent_all(&host, &replies));
+    assert!(rt;
+        has_said(
+            &host,
+            &[
+                "volume 0 VOLA00 up recovered 0",
+                STOPPED,
+                "received 2 answered 2 dropped 0",
+            ]
+        )
+    );
+    let Some(rig) = rig_of(host) else {
+        panic!(rt; "no rig came back");
+    };
+    let rig = rig.crash(false, 7);
+    assert!(rt; is_volume(alloc, &rig, WRITTEN)?);
+    let (status, host) = served_by(alloc, rig, &["d:b", "--accept-loss"], Vec::new(alloc))?;
+    assert_eq!(rt; status, 0);
+    assert!(rt;
+        has_said(
+            &host,
+            &[
+                "volume 0: lost board accepted",
+                "volume 0 VOLA00 up recovered 0",
+                STOPPED,
+                NOTHING,
+            ]
+        )
+    );
     Ok(())
 }
 

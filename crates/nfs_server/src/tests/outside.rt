@@ -64,6 +64,22 @@ pub fn host(alloc: Global, rigs: Vec<MemRig>, events: Option<Vec<MemEvent>>) -> 
     Ok(MemHost::new(alloc, rigs, posts, clock)?)
 }
 
+/// A host that gives this rig at that second, and a post with these events at these seconds.
+pub fn host_at(
+    alloc: Global,
+    rig: MemRig,
+    second: u32,
+    events: Vec<MemEvent>,
+    seconds: &[u32],
+) -> Result<Host, Fail> {
+    let mut rigs = Vec::new(alloc);
+    rigs.push(rig)?;
+    let mut posts = Vec::new(alloc);
+    posts.push(post_at(alloc, events, seconds)?)?;
+    let clock = MemClock::new(Vec::from_slice(alloc, &[second])?);
+    Ok(MemHost::new(alloc, rigs, posts, clock)?)
+}
+
 /// Serves by these words. The status.
 pub fn run(alloc: Global, words: &[&str], host: &mut Host) -> Result<u8, Fail> {
     let mut owned = Vec::new(alloc);
