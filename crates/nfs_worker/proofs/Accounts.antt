@@ -186,9 +186,9 @@ module _ {S : Type 0} (s : Ghosts S) (clocked : IsClocked s.tells s.image s.mome
   }
 
   -- device calls before a run of holds
-  pub grew_before : {a b c : S} (holds : List Hold) → KeepsImage s a b → Grew s b c holds → Grew s a c holds
-  grew_before holds keeps grows = grew_both [] holds (grew_idle keeps) grows
+  pub grew_before : {a b c : S} (holds : List Hold) → Grew s a b [] → Grew s b c holds → Grew s a c holds
+  grew_before holds before grows = grew_both [] holds before grows
 
   -- and after it
-  pub grew_after : {a b c : S} (holds : List Hold) → Grew s a b holds → KeepsImage s b c → Grew s a c holds
-  grew_after {a} {c = c} holds grows keeps = subst (λ (hs : List Hold). Grew s a c hs) (append-nil holds) (grew_both holds [] grows (grew_idle keeps))
+  pub grew_after : {a b c : S} (holds : List Hold) → Grew s a b holds → Grew s b c [] → Grew s a c holds
+  grew_after {a} {c = c} holds grows after = subst (λ (hs : List Hold). Grew s a c hs) (append-nil holds) (grew_both holds [] grows after)

@@ -51,7 +51,7 @@ module _ {S : Type 0} (s : Ghosts S) (clocked : IsClocked s.tells s.image s.mome
     grows = grew_hold s clocked old new (Done number item now r ∷ [])
         (λ told found. let done = applied.leaves told in record { legal = ((row, done.0), tt); view_is = done.1; weak = weak told })
         (let cause = applied.cause in omega arith)
-        (weaker applied.crash (λ d left torn found. record { weak = torn.weak; stands = inl torn.torn }))
+        (weaker applied.crash (λ d left at found. record { weak = at.files.weak; stands = inl at.files.torn }))
         opens;
     item_is = refl;
     worker_is = refl;
@@ -68,8 +68,8 @@ module _ {S : Type 0} (s : Ghosts S) (clocked : IsClocked s.tells s.image s.mome
         event = event;
         grows = grew_hold s clocked old new (event ∷ [])
             (λ told found. record { legal = (applied.leaves told, tt); view_is = refl; weak = weak told })
-            applied.cause
-            (weaker applied.crash (λ d left torn found. record { weak = torn.weak; stands = inl torn.torn }))
+            applied.cause.1
+            (weaker applied.crash (λ d left at found. record { weak = at.files.weak; stands = inl at.files.torn }))
             opens;
         item_is = refl;
         worker_is = refl;
@@ -82,5 +82,5 @@ module _ {S : Type 0} (s : Ghosts S) (clocked : IsClocked s.tells s.image s.mome
   served_nothing applied = grew_same s clocked
       (λ told found. record { weak = weak told; view = applied.leaves told })
       applied.cause
-      (weaker applied.crash (λ d left untouched found. record { weak = untouched.weak; view = untouched.view_is }))
+      (weaker applied.crash (λ d left at found. record { weak = at.files.weak; view = at.files.view_is }))
       opens
