@@ -13,6 +13,7 @@ use Rattle.v7_map.specs.Frame.{frame}
 use Rattle.v7_map.specs.View.{view}
 use Rattle.v7_map.specs.Weak.{IsWeak}
 use Rattle.v7_mend.specs.Keeps.{SameFiles}
+use Rattle.volume.specs.Keeps.{MayOpen, SameVolume}
 use Rattle.nfs_worker.specs.Account.{Hold, history, StandsFor, IsRecovered, Lasts, MarksWithin, HasGrown, Grew}
 
 pub after-append : (files : Files) (xs ys : List Event) → after files (xs ++ ys) ≡ after (after files xs) ys
@@ -86,9 +87,10 @@ rose_both m n a b c p q = omega (arith, p, q)
 kept : (old image : Image) → image ≡ old → IsWeak (frame old) → SameFiles old image
 kept old image is weak = subst (λ (x : Image). SameFiles old x) (sym is) (record { weak = weak; view = refl })
 
-mended : (old image : Image) → (image ≡ old) ⊎ SameFiles old image → IsWeak (frame old) → SameFiles old image
+-- at a moment of an opening
+mended : (old image : Image) → MayOpen old image → IsWeak (frame old) → SameFiles old image
 mended old image (inl is) weak = kept old image is weak
-mended old image (inr files) weak = files
+mended old image (inr same) weak = same.files
 
 module _ {S : Type 0} (s : Ghosts S) (clocked : IsClocked s.tells s.image s.moment s.left_since) where
   -- nothing happened
@@ -147,7 +149,7 @@ module _ {S : Type 0} (s : Ghosts S) (clocked : IsClocked s.tells s.image s.mome
       (λ told. keeps.opens)
 
   -- an opening, done or refused: at each moment nothing has changed, or the files are the same
-  pub grew_opened : {old new : S} → s.faults old ≤ s.faults new → LeavesOnly s.moment s.left_since old new (λ d. (d ≡ s.image old) ⊎ SameFiles (s.image old) d)
+  pub grew_opened : {old new : S} → s.faults old ≤ s.faults new → LeavesOnly s.moment s.left_since old new (MayOpen (s.image old))
       → (s.tells → StaysOpenable s.opens_since s.moment old new) → Grew s old new []
   grew_opened {old} {new} later crash opens = grew_same
       (λ told weak. mended (s.image old) (s.image new) (ends clocked crash told) weak)
@@ -156,8 +158,8 @@ module _ {S : Type 0} (s : Ghosts S) (clocked : IsClocked s.tells s.image s.mome
       opens
 
   -- a stopping: the files are the same
-  pub grew_stopped : {old new : S} → s.faults old ≤ s.faults new → LeavesOnly s.moment s.left_since old new (SameFiles (s.image old)) → (s.tells → StaysOpenable s.opens_since s.moment old new) → Grew s old new []
-  grew_stopped {old} {new} later crash opens = grew_same (λ told weak. ends clocked crash told) later (weaker crash (λ d left is weak. is)) opens
+  pub grew_stopped : {old new : S} → s.faults old ≤ s.faults new → LeavesOnly s.moment s.left_since old new (SameVolume (s.image old)) → (s.tells → StaysOpenable s.opens_since s.moment old new) → Grew s old new []
+  grew_stopped {old} {new} later crash opens = grew_same (λ told weak. (ends clocked crash told).files) later (weaker crash (λ d left is weak. is.files)) opens
 
   -- one run of holds and then another
   pub grew_both : {a b c : S} (xs ys : List Hold) → Grew s a b xs → Grew s b c ys → Grew s a c (xs ++ ys)
