@@ -7,12 +7,13 @@ use Rattle.nvram_map.specs.declared.fault.BoardFault.TheVariants as board
 use Rattle.presto_recover.specs.Refused.{IsReason}
 use Rattle.presto_recover.specs.declared.fault.OpenFault.{OpenFault as UnitFault}
 use Rattle.presto_recover.specs.declared.fault.OpenFault.TheVariants as unit
+use Rattle.run_lines.specs.Refusals.{unit_status}
+use Rattle.run_lines.proofs.Statuses.{host_not}
 use Rattle.nfs_server.specs.Course.{Course, Usage, NoRig, NoUnit, NoVolume, NoPost, Ran, status_of}
 use Rattle.nfs_server.specs.Kept.{FoundAs}
-use Rattle.nfs_server.specs.Refusals.{unit_status}
 use Rattle.nfs_server.specs.Words.{Options}
 use Rattle.nfs_server.proofs.Endings.{closing_failed}
-use Rattle.nfs_server.proofs.Loans.{host_not, volume_failed}
+use Rattle.nfs_server.proofs.Statuses.{volume_failed}
 
 module _ {R : Type 0} (r : Ghosts R) (options : Options) (rig back : R) where
   unit_failed : (fault : UnitFault) → IsReason r options.accept_loss rig back fault → unit_status fault ≡ 74 → Rose (r.faults rig) (r.faults back)

@@ -1,7 +1,7 @@
 -- How a run ends, by what is left dirty.
 use Rattle.std.proofs.Common.{arith, ◌≡◌, ◌≢◌, ℕ, zero, suc, ◌<◌, ◌≤◌, List, [], ◌∷◌, refl, sym}
 use Rattle.nfs_server.specs.Course.{last_lines, end_lines, end_status, closing_status}
-use Rattle.nfs_server.specs.Lines.{device_line}
+use Rattle.run_lines.specs.Lines.{device_line}
 use Rattle.nfs_worker.specs.declared.turning.Ended.{Ended}
 use Rattle.nfs_worker.specs.declared.turning.Ended.TheVariants as ended
 

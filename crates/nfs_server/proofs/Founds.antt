@@ -20,12 +20,13 @@ use Rattle.v7_map.specs.Frame.{frame}
 use Rattle.volume.specs.Opens.{HasNoVolume, name_in}
 use Rattle.volume.specs.declared.fault.OpenFault.TheVariants as volume
 use Rattle.nfs_worker.specs.Tending.{IsError}
+use Rattle.run_lines.specs.Overlays.{overlay_of}
+use Rattle.run_lines.proofs.Overlays.{unit_store}
 use Rattle.nfs_server.specs.Course.{Course, Start, Stop, Usage, NoRig, NoUnit, NoVolume, NoPost, Ran}
-use Rattle.nfs_server.specs.Kept.{overlay_of, IsFound, FoundAs}
+use Rattle.nfs_server.specs.Kept.{IsFound, FoundAs}
 use Rattle.nfs_server.specs.Run.{IsRun, OpensAs}
 use Rattle.nfs_server.specs.Words.{Options}
 use Rattle.nfs_server.specs.declared.starting.Recovery.{Recovery}
-use Rattle.nfs_server.proofs.Overlays.{unit_store}
 
 starts_down : (first : Option Cause) (n : ℕ) → (IsSome first → 1 ≤ n) → n ≡ 0 → starts_after first ≡ Down
 starts_down None n some none = refl

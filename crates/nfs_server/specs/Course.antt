@@ -13,8 +13,10 @@ use Rattle.nfs_worker.specs.Tending.{IsError}
 use Rattle.nfs_worker.specs.Turns.{Did, datagrams}
 use Rattle.nfs_worker.specs.declared.turning.Ended.{Ended}
 use Rattle.nfs_worker.specs.declared.turning.Ended.TheVariants as ended
-use Rattle.nfs_server.specs.Lines.{usage_line, opened_line, loss_line, stopped_line, numbers_line, no_volume_line, no_port_line, device_line}
-use Rattle.nfs_server.specs.Refusals.{host_status, host_line, unit_status, unit_line, volume_status, volume_line}
+use Rattle.run_lines.specs.Lines.{no_volume_line, device_line}
+use Rattle.run_lines.specs.Refusals.{host_status, host_line, unit_status, unit_line}
+use Rattle.nfs_server.specs.Lines.{usage_line, opened_line, loss_line, stopped_line, numbers_line, no_port_line}
+use Rattle.nfs_server.specs.Refusals.{volume_status, volume_line}
 
 -- How a volume was started: its name; how many entries of its board were recovered, and how many are left; whether the board's loss was accepted; its state
 -- after that, what the battery was read as then, and its state after Up.

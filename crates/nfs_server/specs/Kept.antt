@@ -4,9 +4,8 @@ use Rattle.files_model.specs.History.{failures}
 use Rattle.stable.specs.Counts.{Rose, RoseBy}
 use Rattle.stable.specs.Store.{Image}
 use Rattle.stable.specs.declared.state.State.TheVariants.{Down}
-use Rattle.rig.specs.Devices.{Devices}
 use Rattle.rig.specs.declared.rig.Rig.{Ghosts}
-use Rattle.nvram_map.specs.Overlay.{overlay, NoEntry, ShowsOverlay}
+use Rattle.nvram_map.specs.Overlay.{NoEntry}
 use Rattle.presto_recover.specs.Boards.{IsAccepted, IsLoss, found_in}
 use Rattle.presto_recover.specs.Refused.{IsReason}
 use Rattle.presto_unit.specs.Opening.{IsOpenable, opens_since}
@@ -17,18 +16,11 @@ use Rattle.v7_map.specs.Weak.{IsStrong}
 use Rattle.volume.specs.Opens.{HasNoVolume, name_in}
 use Rattle.volume.specs.declared.fault.OpenFault.{OpenFault as VolumeFault}
 use Rattle.volume.specs.declared.fault.OpenFault.TheVariants as volume
+use Rattle.run_lines.specs.Overlays.{overlay_of, overlays_of}
 use Rattle.nfs_worker.specs.Account.{Hold, history, HasGrown, IsRecovered, MarksWithin, Lasts}
 use Rattle.nfs_worker.specs.Tending.{IsError}
 use Rattle.nfs_server.specs.Course.{Course, Start, Stop, state_after, Usage, NoRig, NoUnit, NoVolume, NoPost, Ran}
 use Rattle.nfs_server.specs.Words.{Options}
-
--- what disk and board of a rig stand for
-abbrev pub overlay_of : {R : Type 0} → Ghosts R → R → Image
-overlay_of r rig = overlay (r.contents rig)
-
--- what the disk and board stand for that a sound crash since that moment leaves
-abbrev pub overlays_of : {R : Type 0} → Ghosts R → R → ℕ → Image → Type 0
-overlays_of r rig t image = (d : Devices) × r.left_since rig t d × ShowsOverlay d image
 
 -- A rig was given back after these holds, and there was nothing to mend where it was found. What is said of it is what disk and board stand for together.
 pub record Kept {R : Type 0} (r : Ghosts R) (rig back : R) (holds : List Hold) : Type 0 where

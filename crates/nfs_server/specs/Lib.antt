@@ -4,5 +4,4 @@ pub mod Kept
 pub mod Lines
 pub mod Refusals
 pub mod Run
-pub mod Told
 pub mod Words

@@ -18,6 +18,8 @@ use Rattle.v7_map.specs.Frame.{frame}
 use Rattle.volume.specs.Opens.{HasNoVolume, name_in}
 use Rattle.volume.specs.declared.fault.OpenFault.{OpenFault as VolumeFault}
 use Rattle.volume.specs.declared.fault.OpenFault.TheVariants as volume
+use Rattle.run_lines.specs.Refusals.{host_status, host_line}
+use Rattle.run_lines.specs.Told.{Said, Told, Loan}
 use Rattle.nfs_worker.specs.Account.{Hold, Grew, history}
 use Rattle.nfs_worker.specs.Turns.{Did, EndsBy, datagrams}
 use Rattle.nfs_worker.specs.Worker.{Own, owned, worker_of, Works}
@@ -26,8 +28,6 @@ use Rattle.nfs_worker.specs.declared.turning.Ended.{Ended}
 use Rattle.nfs_server.specs.Course.{Course, Start, Stop, Usage, NoRig, NoUnit, NoVolume, NoPost, Ran, StopsAs, stop_of, state_after, closing_status, closing_lines, status_of, lines_of, dids_of, rigs_in}
 use Rattle.nfs_server.specs.Kept.{Kept, FoundAs}
 use Rattle.nfs_server.specs.Lines.{no_port_line}
-use Rattle.nfs_server.specs.Refusals.{host_status, host_line}
-use Rattle.nfs_server.specs.Told.{Said, Told, Loan}
 use Rattle.nfs_server.specs.Words.{Asked, Options, asked_by}
 use Rattle.nfs_server.specs.declared.starting.Recovery.{Recovery}
 

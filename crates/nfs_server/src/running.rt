@@ -6,14 +6,14 @@ ghost use Rattle.nfs_server.specs.Run.{RanPost, ServedPost, ServedOpen, ServedVo
 ghost use Rattle.nfs_server.specs.Words.{asked_by};
 ghost use Rattle.volume.specs.Mounted.{store_of, name_of};
 
-use crate::lines::{line_of, no_volume_line};
-use crate::refusing::{host_refusal, unit_refusal, volume_refusal};
+use crate::refusing::volume_refusal;
 use crate::starting::{Recovery, start, stop};
-use crate::telling::{USAGE, close, refuse, tell, tell_start};
+use crate::telling::{USAGE, close, tell_start};
 use crate::words::{Options, read_words};
 use nfs_worker::{Cells, Ended, Numbers, ServerPass, work};
 use presto_recover::{Opened, open};
 use rig::{Host, HostFault, Post, Rig};
+use run_lines::{host_refusal, line_of, no_volume_line, refuse, tell, unit_refusal};
 use stable::Tended;
 use std::alloc::Global;
 use volume::Volume;

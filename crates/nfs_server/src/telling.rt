@@ -1,34 +1,18 @@
 //! What a run says to its host.
-ghost use Rattle.std.specs.Prelude.{◌≡◌, ◌∷◌, []};
+ghost use Rattle.std.specs.Prelude.{◌≡◌};
 ghost use Rattle.nfs_server.specs.Course.{closing_lines, closing_status, last_lines, loss_lines, opening_lines, stop_of};
-ghost use Rattle.nfs_server.specs.Told.{Told};
+ghost use Rattle.run_lines.specs.Told.{Told};
 
 use crate::lines::{numbers_line, opened_line, stopped_line};
-use crate::refusing::Refusal;
 use crate::starting::Recovery;
 use nfs_worker::{Ended, Numbers};
 use rig::Host;
+use run_lines::tell;
 use stable::{Snapshot, State};
 
 /// What is said where the words aren't of the grammar.
 pub const USAGE: &str =
     "usage: nfsd VOLUME.. [--workers N] [--turns T] [--port P] [--down] [--accept-loss]";
-
-/// Says a line. A failure is passed over.
-pub fn tell<H: Host>(host: &mut H, line: &str)
-    ensures { Told H.Host.own H.Say host.old host.new (line.now ∷ []) }
-{
-    let _said = host.say(line);
-}
-
-/// Says why a run is refused, and answers its status.
-pub fn refuse<H: Host>(host: &mut H, refusal: Refusal) -> u8
-    ensures told { Told H.Host.own H.Say host.old host.new (refusal.line.bytes ∷ []) }
-    ensures status { result ≡ refusal.status }
-{
-    tell(host, refusal.line.as_str());
-    refusal.status
-}
 
 // Says that the loss of a board was accepted, if one was.
 fn tell_loss<H: Host>(host: &mut H, lost: bool)

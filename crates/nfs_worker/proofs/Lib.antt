@@ -3,7 +3,6 @@ pub mod Reactions
 pub mod Counts
 pub mod Lists
 pub mod Meanings
-pub mod Offers
 pub mod OneHold
 pub mod Tendings
 pub mod Turns

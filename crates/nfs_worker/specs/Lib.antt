@@ -1,6 +1,5 @@
 pub mod Account
 pub mod Answers
-pub mod Offers
 pub mod Served
 pub mod Tending
 pub mod Turns

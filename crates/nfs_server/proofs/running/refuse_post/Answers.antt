@@ -1,7 +1,7 @@
 use Rattle.std.proofs.Common.{arith, ◌∙◌, [], ◌∷◌, List, ℕ, refl, sym, ap, subst}
-use Rattle.nfs_server.specs.Refusals.{host_line}
+use Rattle.run_lines.specs.Refusals.{host_line}
 use Rattle.nfs_server.specs.Run.{RefusedPost}
-use Rattle.nfs_server.proofs.Sayings.{told_as}
+use Rattle.run_lines.proofs.Sayings.{told_as}
 use Rattle.nfs_server.proofs.Stops.{stops_as}
 use Rattle.nfs_server.proofs.running.refuse_post.Goals as goal
 use Rattle.volume.specs.Mounted.{store_of}

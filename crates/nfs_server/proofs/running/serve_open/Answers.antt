@@ -6,8 +6,9 @@ use Rattle.nfs_worker.proofs.Accounts.{grew_idle, grew_both, grew_before}
 use Rattle.nfs_server.specs.Course.{Start, NoPost, Ran, start_lines, stop_of, state_after, closing_lines}
 use Rattle.nfs_server.specs.Run.{changes_in}
 use Rattle.nfs_server.proofs.Endings.{closing_not}
-use Rattle.nfs_server.proofs.Loans.{loan_none, loan_one, host_failed}
-use Rattle.nfs_server.proofs.Sayings.{loans_both, said_both, said_later, told_as}
+use Rattle.run_lines.proofs.Loans.{loan_none, loan_one}
+use Rattle.run_lines.proofs.Statuses.{host_failed}
+use Rattle.run_lines.proofs.Sayings.{loans_both, said_both, said_later, told_as}
 use Rattle.nfs_server.proofs.Stops.{stops_since}
 use Rattle.nfs_server.proofs.running.serve_open.Goals as goal
 use Rattle.volume.specs.Mounted.{store_of}

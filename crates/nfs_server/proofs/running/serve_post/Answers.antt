@@ -4,7 +4,7 @@ use Rattle.nfs_worker.specs.Turns.{datagrams}
 use Rattle.nfs_worker.proofs.Accounts.{grew_after}
 use Rattle.nfs_server.specs.Course.{closing_lines, stop_of}
 use Rattle.nfs_server.specs.Run.{ServedPost, changes_in}
-use Rattle.nfs_server.proofs.Sayings.{loans_both, said_later, told_as}
+use Rattle.run_lines.proofs.Sayings.{loans_both, said_later, told_as}
 use Rattle.nfs_server.proofs.Stops.{stops_as}
 use Rattle.nfs_server.proofs.running.serve_post.Goals as goal
 use Rattle.volume.specs.Mounted.{store_of}

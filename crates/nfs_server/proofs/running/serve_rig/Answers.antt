@@ -7,9 +7,10 @@ use Rattle.nfs_server.specs.Course.{NoUnit}
 use Rattle.nfs_server.specs.Run.{ServedRig}
 use Rattle.nfs_server.proofs.Devices.{device_failed}
 use Rattle.nfs_server.proofs.Founds.{found_by}
-use Rattle.nfs_server.proofs.Loans.{loan_none, unit_not}
+use Rattle.run_lines.proofs.Loans.{loan_none}
+use Rattle.run_lines.proofs.Statuses.{unit_not}
 use Rattle.nfs_server.proofs.Overlays.{kept_refused, kept_opened}
-use Rattle.nfs_server.proofs.Sayings.{told_as}
+use Rattle.run_lines.proofs.Sayings.{told_as}
 use Rattle.nfs_server.proofs.Stops.{each_pair}
 use Rattle.nfs_server.proofs.running.serve_rig.Goals as goal
 

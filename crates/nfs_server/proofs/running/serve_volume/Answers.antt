@@ -4,8 +4,9 @@ use Rattle.stable.specs.declared.snapshot.Snapshot.{Snapshot}
 use Rattle.nfs_worker.proofs.Accounts.{grew_idle, grew_before}
 use Rattle.nfs_server.specs.Course.{NoVolume}
 use Rattle.nfs_server.specs.Run.{changes_in}
-use Rattle.nfs_server.proofs.Loans.{loan_none, loan_within, volume_not}
-use Rattle.nfs_server.proofs.Sayings.{loans_both, said_later, told_as}
+use Rattle.run_lines.proofs.Loans.{loan_none, loan_within}
+use Rattle.nfs_server.proofs.Statuses.{volume_not}
+use Rattle.run_lines.proofs.Sayings.{loans_both, said_later, told_as}
 use Rattle.nfs_server.proofs.Stops.{looked_keeps, opens_as, each_pair}
 use Rattle.nfs_server.proofs.running.serve_volume.Goals as goal
 use Rattle.volume.specs.Mounted.{store_of}

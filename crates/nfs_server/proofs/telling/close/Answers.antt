@@ -1,7 +1,7 @@
 use Rattle.std.proofs.Common.{[], ◌∷◌, ◌++◌, List, ℕ, ap, ◌∙◌}
 use Rattle.nfs_server.specs.Course.{last_lines}
 use Rattle.nfs_server.specs.Lines.{stopped_line, numbers_line}
-use Rattle.nfs_server.proofs.Sayings.{told_both, told_as}
+use Rattle.run_lines.proofs.Sayings.{told_both, told_as}
 use Rattle.nfs_server.proofs.telling.close.Goals as goal
 
 pub returns-clause-told : goal.returns-clause-told

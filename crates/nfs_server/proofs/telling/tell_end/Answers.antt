@@ -1,7 +1,7 @@
 use Rattle.std.proofs.Common.{[], ◌∷◌, List, ℕ, arith, sym, ap, ◌∙◌}
 use Rattle.nfs_server.specs.Course.{end_lines}
 use Rattle.nfs_server.proofs.Endings.{last_failed, last_ended}
-use Rattle.nfs_server.proofs.Sayings.{told_none, told_as}
+use Rattle.run_lines.proofs.Sayings.{told_none, told_as}
 use Rattle.nfs_server.proofs.telling.tell_end.Goals as goal
 
 pub returns-then-dirty-gt0-clause-told : goal.returns-then-dirty-gt0-clause-told

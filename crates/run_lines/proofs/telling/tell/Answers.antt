@@ -1,5 +1,5 @@
-use Rattle.nfs_server.proofs.Sayings.{said_one}
-use Rattle.nfs_server.proofs.telling.tell.Goals as goal
+use Rattle.run_lines.proofs.Sayings.{said_one}
+use Rattle.run_lines.proofs.telling.tell.Goals as goal
 
 pub returns : goal.returns
 returns g c =

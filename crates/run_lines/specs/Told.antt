@@ -5,7 +5,7 @@ use Rattle.std.specs.Option.{option_map}
 use Rattle.rig.specs.Hosts.{SameLoans}
 use Rattle.rig.specs.declared.host.Host.{Ghosts}
 use Rattle.rig.specs.declared.say.Say.{Ghosts as SayGhosts}
-use Rattle.nfs_worker.specs.Offers.{Offers}
+use Rattle.rig.specs.Offers.{Offers}
 
 -- These lines were to be said. Those that are missing are no more than the failures.
 pub record Said {S : Type 0} (say : SayGhosts S) (old new : S) (wanted : List (List ℕ)) : Type 0 where

@@ -1,13 +1,13 @@
 -- What was said, one line after another.
-use Rattle.std.proofs.Common.{arith, ◌≡◌, ◌∙◌, ℕ, ◌≤◌, ◌+◌, List, [], ◌∷◌, ◌++◌, length, Result, Ok, Err, OnOk, OnErr, refl, sym, subst}
+use Rattle.std.proofs.Common.{arith, ◌≡◌, ◌∙◌, ℕ, List, [], ◌∷◌, ◌++◌, Result, Ok, Err, OnOk, OnErr, refl, sym, subst}
 use Rattle.stable.specs.Counts.{HasCause}
 use Rattle.rig.specs.Hosts.{SameLoans, SameLines}
 use Rattle.rig.specs.Links.{gains}
 use Rattle.rig.specs.declared.host.Host.{Ghosts}
 use Rattle.rig.specs.declared.say.Say.{Ghosts as SayGhosts}
-use Rattle.nfs_worker.specs.Offers.{Offers}
-use Rattle.nfs_worker.proofs.Offers.{offers_nothing, offers_one, offers_fails, offers_both}
-use Rattle.nfs_server.specs.Told.{Said, SameHost, Told}
+use Rattle.rig.specs.Offers.{Offers}
+use Rattle.rig.proofs.Offers.{offers_nothing, offers_one, offers_fails, offers_both}
+use Rattle.run_lines.specs.Told.{Said, Told}
 
 pub loans_both : {S A B : Type 0} {left_of : S → A} {back_of : S → B} {out_of : S → ℕ} {a b c : S} → SameLoans left_of back_of out_of a b → SameLoans left_of back_of out_of b c → SameLoans left_of back_of out_of a c
 loans_both p q = record { left = q.left ∙ p.left; back = q.back ∙ p.back; out = q.out ∙ p.out }

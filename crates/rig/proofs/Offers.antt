@@ -3,9 +3,12 @@ use Rattle.std.proofs.Common.{arith, ◌≡◌, ℕ, ◌+◌, ◌-◌, ◌≤◌
 use Rattle.std.specs.Option.{option_map}
 use Rattle.stable.specs.Counts.{RoseBy, Rose}
 use Rattle.rig.specs.Links.{gains}
-use Rattle.nfs_worker.specs.Offers.{LeavesOut, Offers}
-use Rattle.nfs_worker.specs.Offers.LeavesOut.{none, keep, leave}
-use Rattle.nfs_worker.proofs.Counts.{rose_both}
+use Rattle.rig.specs.Offers.{LeavesOut, Offers}
+use Rattle.rig.specs.Offers.LeavesOut.{none, keep, leave}
+
+-- what two lists lack has its faults, where what each lacks has
+rose_both : (m n r s f g h : ℕ) → r ≤ m → s ≤ n → RoseBy (m - r) f g → RoseBy (n - s) g h → RoseBy (m + n - (r + s)) f h
+rose_both m n r s f g h few few' p q = omega arith
 
 pub leaves_both : {A : Type 0} (xs ys vs ws : List A) → LeavesOut xs ys → LeavesOut vs ws → LeavesOut (xs ++ vs) (ys ++ ws)
 leaves_both [] [] vs ws none q = q

@@ -1,8 +1,8 @@
 use Rattle.std.proofs.Common.{arith, ◌≡◌, ℕ, take, sym, ap, ◌∙◌, Some, None, add-one}
 use Rattle.std.proofs.lemmas.Str.Pattern.{rfind_char}
-use Rattle.nfs_server.specs.Words.{named_parts, cut_last}
-use Rattle.nfs_server.proofs.Cutting.{cut_none, cut_at}
-use Rattle.nfs_server.proofs.words.read_volume.Goals as goal
+use Rattle.run_lines.specs.Naming.{named_parts, cut_last}
+use Rattle.run_lines.proofs.Cutting.{cut_none, cut_at}
+use Rattle.run_lines.proofs.naming.read_volume.Goals as goal
 
 pub returns-in-None-clause-named : goal.returns-in-None-clause-named
 returns-in-None-clause-named c = c.read_disk.ensures.named ∙ ap (named_parts c.args.word.now) (sym (cut_none c.args.word.now (rfind_char 58 c.args.word.now None c.in-None.ensures.cases (omega arith))))
