@@ -20,11 +20,11 @@ host_not host_fault.NoMemory n p q is = q (sym is)
 
 pub volume_failed : (fault : RepairFault) → volume_status fault ≡ 74 → fault ≡ volume.Failed
 volume_failed volume.Failed is = refl
-volume_failed (volume.Damaged sector kind) is = absurd (omega (arith, is))
+volume_failed (volume.Damaged sector which) is = absurd (omega (arith, is))
 volume_failed volume.NoMemory is = absurd (omega (arith, is))
 
 pub volume_not : (fault : RepairFault) (n : ℕ) → n ≤ 67 → volume_status fault ≢ n
-volume_not (volume.Damaged sector kind) n le is = omega (arith, le, is)
+volume_not (volume.Damaged sector which) n le is = omega (arith, le, is)
 volume_not volume.Failed n le is = omega (arith, le, is)
 volume_not volume.NoMemory n le is = omega (arith, le, is)
 

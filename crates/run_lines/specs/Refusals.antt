@@ -53,12 +53,12 @@ unit_line unit.NoMemory = no_memory_line
 
 -- what the refusal of a volume gives
 abbrev pub volume_status : RepairFault → ℕ
-volume_status (volume.Damaged sector kind) = 68
+volume_status (volume.Damaged sector which) = 68
 volume_status volume.Failed = 74
 volume_status volume.NoMemory = 75
 
 abbrev pub volume_line : RepairFault → List ℕ
-volume_line (volume.Damaged sector kind) = damage_line sector kind
+volume_line (volume.Damaged sector which) = damage_line sector which
 volume_line volume.Failed = device_line
 volume_line volume.NoMemory = no_memory_line
 
