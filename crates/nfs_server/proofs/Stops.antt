@@ -62,7 +62,7 @@ module _ {V : Type 0} (s : Ghosts V) where
 
   -- an opening that was refused
   pub refused_as : (store store' : V) (fault : RepairFault) → (s.tells → Refuses (s.image store) fault (s.image store')) → (fault ≡ repair.Failed → Rose (s.faults store) (s.faults store')) → IsRefusedAs s store store' fault
-  refused_as store store' (repair.Damaged sector kind) refuses failed = record { damage = λ told. (refuses told).0; same = λ told not. (refuses told).1; failed = failed }
+  refused_as store store' (repair.Damaged sector which) refuses failed = record { damage = λ told. (refuses told).0; same = λ told not. (refuses told).1; failed = failed }
   refused_as store store' repair.Failed refuses failed = record { damage = λ told. tt; same = λ told not. absurd (not refl); failed = failed }
   refused_as store store' repair.NoMemory refuses failed = record { damage = λ told. tt; same = λ told not. refuses told; failed = failed }
 
