@@ -17,9 +17,16 @@ use Rattle.stable.specs.declared.snapshot.Snapshot.{Snapshot}
 use Rattle.stable.specs.declared.store.Stable.{Ghosts}
 use Rattle.stable.proofs.Clocked.{ends, goes_on, weaker}
 use Rattle.stable.proofs.Counted.{made_then}
+use Rattle.v7_damage.specs.Tests.{told}
+use Rattle.v7_damage.specs.Undamaged.{IsFaultOf}
+use Rattle.v7_damage.specs.declared.damage.Damage.{Damage}
+use Rattle.v7_damage.specs.declared.damage.RepairFault.TheVariants.{Damaged}
+use Rattle.v7_map.specs.Damage.{Test, damage}
 use Rattle.v7_map.specs.Frame.{Frame, frame}
 use Rattle.v7_map.specs.View.{view}
 use Rattle.v7_map.specs.Weak.{IsWeak, IsStrong}
+use Rattle.v7_map.proofs.AnyFrame.{frame-IsFrame}
+use Rattle.v7_map.proofs.Weakness.{no_damage_when_weak}
 use Rattle.v7_make.specs.Chains.{FitStore}
 use Rattle.v7_repair.specs.Leaves.{MayMend}
 use Rattle.v7_sets.specs.Sets.{AreSets, AreSetsOf}
@@ -56,6 +63,23 @@ rest_same tells old new sectors sectors' hurt blocks inodes same as_many rest = 
   weak = λ told. subst (λ (x : Image). IsWeak (frame x)) (sym (same told)) (rest.weak told);
   strong = λ told sound. subst (λ (x : Image). IsStrong (frame x)) (sym (same told)) (rest.strong told sound);
   sets = λ told sound. subst (λ (x : Image). AreSetsOf x blocks inodes) (sym (same told)) (rest.sets told sound);
+}
+
+-- what can be mended has no damage to tell
+pub fault_weak : (image : Image) (sector : ℕ) (kind : Damage) → IsWeak (frame image) → IsFaultOf image (Damaged sector kind) → ⊥
+fault_weak image sector kind weak is =
+    let none : damage (frame image) ≡ None = no_damage_when_weak (frame image) (frame-IsFrame image) weak in
+    let told_none : told (frame image) None ≡ Some (sector, kind) = subst (λ (t : Option Test). told (frame image) t ≡ Some (sector, kind)) none is in
+    absurd (cc)
+
+-- where damage is found none is told, and what is asked of any store still holds
+pub rest_damaged : (tells : Type 0) (old new : Image) (sectors sectors' : ℕ) (hurt : Bool) (blocks inodes : List Bool) → (tells → ⊥) → sectors' ≡ sectors
+    → IsAtRest tells old sectors hurt blocks inodes → IsAtRest tells new sectors' false blocks inodes
+rest_damaged tells old new sectors sectors' hurt blocks inodes never as_many rest = record {
+  fits = subst (λ n. FitStore n blocks inodes) (sym as_many) rest.fits;
+  weak = λ told. absurd (never told);
+  strong = λ told sound. absurd (never told);
+  sets = λ told sound. absurd (never told);
 }
 
 -- ---- a call
