@@ -57,7 +57,7 @@ module _ {S : Type 0} (s : Ghosts S) (clocked : IsClocked s.tells s.image s.mome
       (λ d left so. open_mark (s.image old) (s.image mid) mended (is (clocked.told new (s.moment mid) d left)) now d so)
 
 -- the puts of a mend, and one
-pub puts_marked : (count : ℕ) (a b c : Snapshot) (k l m : ℕ) → count ≤ repair_puts → k ≤ l → l ≤ m → ArePuts count k l a b → SomePuts 1 l m b c → SomePuts 73720 k m a c
+pub puts_marked : (count : ℕ) (a b c : Snapshot) (k l m : ℕ) → count ≤ repair_puts → k ≤ l → l ≤ m → ArePuts count k l a b → SomePuts 1 l m b c → SomePuts (repair_puts + 1) k m a c
 puts_marked count a b c k l m few low high mended mark = record {
   count = count + mark.count;
   few = let most = mark.few in omega (arith, few, most);

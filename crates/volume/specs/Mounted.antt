@@ -33,5 +33,5 @@ pub record KeepsTitle {S : Type 0} (old new : Volume S) : Type 0 where
   pub root : root_of new ≡ root_of old
 
 -- all but the store stays
-abbrev pub KeepsRest : {S : Type 0} → Volume S → Volume S → Type 0
-KeepsRest old new = new ≡ record old { store = new.store }
+abbrev pub SameButStore : {S : Type 0} → Volume S → Volume S → Type 0
+SameButStore old new = new ≡ record old { store = new.store }

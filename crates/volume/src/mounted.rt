@@ -34,10 +34,11 @@ impl<S: Tended> Volume<S> {
     ghost use Rattle.v7_damage.specs.declared.damage.RepairFault.TheVariants as fault;
     ghost use Rattle.v7_inspect.specs.SeenNumbers.{IsInspected};
     ghost use Rattle.v7_make.specs.Chains.{IsChained};
+    ghost use Rattle.v7_repair.specs.Runs.{repair_puts};
     ghost use Rattle.volume.specs.Applied.{Applies, most_puts};
     ghost use Rattle.volume.specs.Keeps.{SameVolume, MayOpen};
     ghost use Rattle.volume.specs.Mends.{Mends, mend_puts, stop_puts};
-    ghost use Rattle.volume.specs.Mounted.{store_of, is_hurt, free_blocks, free_inodes, name_of, root_of, KeepsTitle, KeepsRest};
+    ghost use Rattle.volume.specs.Mounted.{store_of, is_hurt, free_blocks, free_inodes, name_of, root_of, KeepsTitle, SameButStore};
     ghost use Rattle.volume.specs.Opened.{Opens, left_by, IsCaused};
     ghost use Rattle.volume.specs.Rests.{Rests};
 
@@ -57,7 +58,7 @@ impl<S: Tended> Volume<S> {
         ensures crash { LeavesOnly S.moment S.left_since store (left_by result) (MayOpen (S.image store)) }
         ensures opens { S.tells → StaysOpenable S.opens_since S.moment store (left_by result) }
         ensures sectors { S.sector_count (left_by result) ≡ S.sector_count store }
-        ensures snapshot { SomePuts 73720 (S.faults store) (S.faults (left_by result)) (S.snapshot_of store) (S.snapshot_of (left_by result)) }
+        ensures snapshot { SomePuts (repair_puts + 1) (S.faults store) (S.faults (left_by result)) (S.snapshot_of store) (S.snapshot_of (left_by result)) }
     {
         let mut store = store;
         match open_store(alloc, &mut store, now) {
@@ -138,7 +139,7 @@ impl<S: Tended> Volume<S> {
         ensures inspected { S.tells → IsInspected (S.image (store_of self.old)) result }
         ensures cause { IsErrOf result fault.Failed → Rose (S.faults (store_of self.old)) (S.faults (store_of self.new)) }
         ensures looked { Looked S.Stable (store_of self.old) (store_of self.new) }
-        ensures kept { KeepsRest self.old self.new }
+        ensures kept { SameButStore self.old self.new }
     {
         v7_inspect::inspect(self.alloc, &mut self.store)
     }
@@ -195,7 +196,7 @@ impl<S: Tended> Volume<S> {
         requires rest { Rests S.Stable self.old }
         ensures rest { Rests S.Stable self.new }
         ensures keeps { KeepsImage S.Stable (store_of self.old) (store_of self.new) }
-        ensures kept { KeepsRest self.old self.new }
+        ensures kept { SameButStore self.old self.new }
         ensures snapshot { IsPolled result (S.snapshot_of (store_of self.old)) (S.snapshot_of (store_of self.new)) }
     {
         self.store.poll()
@@ -206,7 +207,7 @@ impl<S: Tended> Volume<S> {
         requires rest { Rests S.Stable self.old }
         ensures rest { Rests S.Stable self.new }
         ensures keeps { KeepsImage S.Stable (store_of self.old) (store_of self.new) }
-        ensures kept { KeepsRest self.old self.new }
+        ensures kept { SameButStore self.old self.new }
         ensures snapshot { IsFlushed result (S.faults (store_of self.old)) (S.faults (store_of self.new)) (S.snapshot_of (store_of self.old)) (S.snapshot_of (store_of self.new)) }
     {
         self.store.flush_one()
@@ -217,7 +218,7 @@ impl<S: Tended> Volume<S> {
         requires rest { Rests S.Stable self.old }
         ensures rest { Rests S.Stable self.new }
         ensures keeps { KeepsImage S.Stable (store_of self.old) (store_of self.new) }
-        ensures kept { KeepsRest self.old self.new }
+        ensures kept { SameButStore self.old self.new }
         ensures snapshot { IsCommanded command result (S.faults (store_of self.old)) (S.faults (store_of self.new)) (S.snapshot_of (store_of self.old)) (S.snapshot_of (store_of self.new)) }
     {
         self.store.command(command)
@@ -233,7 +234,7 @@ impl<S: Tended> Volume<S> {
 
 impl<S: SteeredStore> Volume<S> {
     ghost use Rattle.stable.specs.Looked.{Untouched};
-    ghost use Rattle.volume.specs.Mounted.{store_of, KeepsRest};
+    ghost use Rattle.volume.specs.Mounted.{store_of, SameButStore};
     ghost use Rattle.volume.specs.Rests.{Rests};
 
     /// Sets what the battery says at its next readings.
@@ -241,7 +242,7 @@ impl<S: SteeredStore> Volume<S> {
         requires rest { Rests S.Stable self.old }
         ensures rest { Rests S.Stable self.new }
         ensures untouched { Untouched S.Stable (store_of self.old) (store_of self.new) }
-        ensures kept { KeepsRest self.old self.new }
+        ensures kept { SameButStore self.old self.new }
     {
         self.store.set_battery(battery);
     }
@@ -251,7 +252,7 @@ impl<S: SteeredStore> Volume<S> {
         requires rest { Rests S.Stable self.old }
         ensures rest { Rests S.Stable self.new }
         ensures untouched { Untouched S.Stable (store_of self.old) (store_of self.new) }
-        ensures kept { KeepsRest self.old self.new }
+        ensures kept { SameButStore self.old self.new }
     {
         self.store.stop_after(calls, newer);
     }

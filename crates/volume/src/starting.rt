@@ -1,11 +1,12 @@
 // The opening of a volume.
-ghost use Rattle.std.specs.Prelude.{◌≡◌, ◌≤◌, IfOk, IsErrOf};
+ghost use Rattle.std.specs.Prelude.{◌≡◌, ◌≤◌, ◌+◌, IfOk, IsErrOf};
 ghost use Rattle.stable.specs.Counts.{Rose};
 ghost use Rattle.stable.specs.Moments.{LeavesOnly};
 ghost use Rattle.stable.specs.States.{SomePuts};
 ghost use Rattle.stable.specs.Store.{StaysOpenable};
 ghost use Rattle.v7_damage.specs.declared.damage.RepairFault.TheVariants as fault;
 ghost use Rattle.v7_make.specs.Chains.{FitStore};
+ghost use Rattle.v7_repair.specs.Runs.{repair_puts};
 ghost use Rattle.volume.specs.Keeps.{MayOpen};
 ghost use Rattle.volume.specs.Opens.{Starts};
 
@@ -36,7 +37,7 @@ pub fn open_store<S: Stable>(
     ensures crash { LeavesOnly S.moment S.left_since store.old store.new (MayOpen (S.image store.old)) }
     ensures opens { S.tells → StaysOpenable S.opens_since S.moment store.old store.new }
     ensures sectors { S.sector_count store.new ≡ S.sector_count store.old }
-    ensures snapshot { SomePuts 73720 (S.faults store.old) (S.faults store.new) (S.snapshot_of store.old) (S.snapshot_of store.new) }
+    ensures snapshot { SomePuts (repair_puts + 1) (S.faults store.old) (S.faults store.new) (S.snapshot_of store.old) (S.snapshot_of store.new) }
 {
     let mended = match repair(alloc, store) {
         Ok(mended) => mended,

@@ -22,7 +22,7 @@ returns-in_err-title-clause-crash g c =
 pub returns-in_err-title-clause-snapshot : goal.returns-in_err-title-clause-snapshot
 returns-in_err-title-clause-snapshot g c =
     let run = c.in-Ok.ensures.run in
-    puts_looked 73720 _ _ _ _ _ _ c.look.ensures.looked.later c.look.ensures.looked.snapshot
+    puts_looked _ _ _ _ _ _ _ c.look.ensures.looked.later c.look.ensures.looked.snapshot
     (puts_marked run.count _ _ _ _ _ _ run.few run.puts.later c.in_ok-mark_open.ensures.cause.later run.puts.snapshot c.in_ok-mark_open.ensures.snapshot)
 
 pub returns-in-Some-clause-crash : goal.returns-in-Some-clause-crash
@@ -35,7 +35,7 @@ returns-in-Some-clause-crash g c =
 pub returns-in-Some-clause-snapshot : goal.returns-in-Some-clause-snapshot
 returns-in-Some-clause-snapshot g c =
     let run = c.in-Ok.ensures.run in
-    puts_looked 73720 _ _ _ _ _ _ c.look.ensures.looked.later c.look.ensures.looked.snapshot
+    puts_looked _ _ _ _ _ _ _ c.look.ensures.looked.later c.look.ensures.looked.snapshot
     (puts_marked run.count _ _ _ _ _ _ run.few run.puts.later c.in_ok-mark_open.ensures.cause.later run.puts.snapshot c.in_ok-mark_open.ensures.snapshot)
 
 pub returns-in-None-clause-crash : goal.returns-in-None-clause-crash
@@ -48,5 +48,5 @@ returns-in-None-clause-crash g c =
 pub returns-in-None-clause-snapshot : goal.returns-in-None-clause-snapshot
 returns-in-None-clause-snapshot g c =
     let run = c.in-Ok.ensures.run in
-    puts_looked 73720 _ _ _ _ _ _ c.look.ensures.looked.later c.look.ensures.looked.snapshot
+    puts_looked _ _ _ _ _ _ _ c.look.ensures.looked.later c.look.ensures.looked.snapshot
     (puts_marked run.count _ _ _ _ _ _ run.few run.puts.later c.in_ok-mark_open.ensures.cause.later run.puts.snapshot c.in_ok-mark_open.ensures.snapshot)

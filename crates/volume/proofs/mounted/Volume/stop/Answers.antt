@@ -5,9 +5,9 @@ use Rattle.volume.proofs.mounted.Volume.stop.Goals as goal
 pub write_chain-written-requires-clause-idle : goal.write_chain-written-requires-clause-idle
 write_chain-written-requires-clause-idle g c told =
     let rest = c.requires.rest in
-    idle_of (g.S.Stable.image c.args.self.store) c.args.self.sets.blocks c.args.self.sets.inodes (rest.weak told) (rest.sets told c.if-hurt.false)
+    idle_of (g.S.Stable.image c.args.self.store) _ _ (rest.weak told) (rest.sets told c.if-hurt.false)
 
 pub returns-clause-crash : goal.returns-clause-crash
 returns-clause-crash g c =
     let S = g.S.Stable in
-    weaker c.write_chain-written.ensures.crash (λ d left keeps. chain_same c.args.self.sets.blocks (S.image c.args.self.store) d (c.requires.rest.weak (g.met.S.Stable.clocked.told _ _ d left)) keeps)
+    weaker c.write_chain-written.ensures.crash (λ d left keeps. chain_same _ (S.image c.args.self.store) d (c.requires.rest.weak (g.met.S.Stable.clocked.told _ _ d left)) keeps)
