@@ -1,5 +1,5 @@
 -- What is left by the tables is what is free after a repair.
-use Rattle.std.proofs.Common.{◌≡◌, ◌≢◌, ℕ, ◌+◌, ◌-◌, ◌^◌, ◌<◌, ◌≤◌, Bool, true, false, cond, not, ◌==◌, ◌&&◌, ◌||◌, List, length, refl, sym, ap, subst, ◌∙◌, arith, ⊎_elim, ltb, leb, eq-eqb, Some, None}
+use Rattle.std.proofs.Common.{◌≡◌, ◌≢◌, ◌⊎◌, inl, inr, ℕ, ◌+◌, ◌-◌, ◌^◌, ◌<◌, ◌≤◌, Bool, true, false, cond, not, ◌==◌, ◌&&◌, ◌||◌, List, length, refl, sym, ap, subst, ◌∙◌, arith, ⊎_elim, ltb, leb, eq-eqb, Some, None}
 use Rattle.std.proofs.lemmas.Bool.{cases_Bool, eqb-true, ltb-true, leb-true, lt-ltb, le-ltb, le-leb, ne_eqb}
 use Rattle.std.specs.FinMap.{get}
 use Rattle.std.specs.List.{range_with_len, list_any}
@@ -188,54 +188,54 @@ module _ (old new : Image) (weak : IsWeak (frame old)) (r : Repairs old new) (su
         (and_both _ _ (ap not (unused_unnamed i (omega (arith, within)) n.unused (is_named (tree (frame old)) i) refl))
         (lt-ltb (inode_at old i).generation (2 ^ 32 - 1) (n.fresh (inode_at old i).generation (same_generation i (omega (arith, past)) (omega (arith, within)))))))
 
+  low_isize : 3 ≤ (frame old).isize
+  low_isize = weak.sizes.low
+
+  start : isize_of old ≡ (frame old).isize
+  unfolding frame
+  start = refl
+
   -- ---- both
 
-  pub sets_are : (needed : List Bool) (sets : Sets) → AreNeeded old needed (tree (frame old)).inodes → length needed ≡ (frame old).fsize
-      → AreLeft old needed sets → length sets.blocks ≡ (frame old).fsize → length sets.inodes ≡ (tree (frame old)).inodes + 1 → AreSetsOf new sets.blocks sets.inodes
-  sets_are needed sets are long left room numbers = record {
-    blocks_room = room ∙ sym same_fsize;
-    inodes_room = numbers ∙ ap (λ n. n + 1) (sym same_inodes);
-    free = λ b e. free b (sym (left.blocks b) ∙ e);
-    all_free = λ b e. left.blocks b ∙ all_free b e;
-    numbers = λ i e. fresh_free i (sym (left.inodes i) ∙ e);
-    all_numbers = λ i e. left.inodes i ∙ free_fresh i e;
-  }
-    where
-      low : 3 ≤ (frame old).isize
-      low = weak.sizes.low
+  module _ (needed : List Bool) (are : AreNeeded old needed (tree (frame old)).inodes) (long : length needed ≡ (frame old).fsize) where
+    left_free : (b : ℕ) → is_left (isize_of old) needed b ≡ true → IsFreeBlock (frame new) b
+    unfolding is_left
+    left_free b e =
+        let past = leb-true (isize_of old) b (and_left _ _ e) in
+        let within = ltb-true b (length needed) (and_left _ _ (and_right _ _ e)) in
+        let none = unset (mark_at needed b) (and_right _ _ (and_right _ _ e)) in
+        let isize = same_isize in
+        let fsize = same_fsize in
+        let l = low_isize in
+        let s = start in
+        record {
+          low = omega (arith, past, isize, s);
+          high = omega (arith, within, long, fsize);
+          nowhere = λ i p at. both (mark_at needed b) (stands_marked needed are b i p (λ z. absurd (omega (arith, z, past, l, s))) within at) none;
+        }
 
-      start : isize_of old ≡ (frame old).isize
-      unfolding frame
-      start = refl
+    unmarked : (b : ℕ) → IsFreeBlock (frame new) b → b ≢ 0 → b < length needed → (m : Bool) → mark_at needed b ≡ m → not m ≡ true
+    unmarked b is some lt false m = refl
+    unmarked b is some lt true m = let s = marked_stands needed are b some lt m in absurd (is.nowhere s.0 s.1 s.2)
 
-      free : (b : ℕ) → is_left (isize_of old) needed b ≡ true → IsFreeBlock (frame new) b
-      unfolding is_left
-      free b e =
-          let past = leb-true (isize_of old) b (and_left _ _ e) in
-          let within = ltb-true b (length needed) (and_left _ _ (and_right _ _ e)) in
-          let none = unset (mark_at needed b) (and_right _ _ (and_right _ _ e)) in
-          let isize = same_isize in
-          let fsize = same_fsize in
-          let l = low in
-          let s = start in
-          record {
-            low = omega (arith, past, isize, s);
-            high = omega (arith, within, long, fsize);
-            nowhere = λ i p at. both (mark_at needed b) (stands_marked needed are b i p (λ z. absurd (omega (arith, z, past, l, s))) within at) none;
-          }
+    free_left : (b : ℕ) → IsFreeBlock (frame new) b → is_left (isize_of old) needed b ≡ true
+    unfolding is_left
+    free_left b is =
+        let past = is.low in
+        let high = is.high in
+        let isize = same_isize in
+        let fsize = same_fsize in
+        let l = low_isize in
+        let s = start in
+        let lt : b < length needed = omega (arith, high, fsize, long) in
+        and_both _ _ (le-leb (isize_of old) b (omega (arith, past, isize, s))) (and_both _ _ (lt-ltb b (length needed) lt) (unmarked b is (λ z. absurd (omega (arith, z, past, isize, l))) lt (mark_at needed b) refl))
 
-      unmarked : (b : ℕ) → IsFreeBlock (frame new) b → b ≢ 0 → b < length needed → (m : Bool) → mark_at needed b ≡ m → not m ≡ true
-      unmarked b is some lt false m = refl
-      unmarked b is some lt true m = let s = marked_stands needed are b some lt m in absurd (is.nowhere s.0 s.1 s.2)
-
-      all_free : (b : ℕ) → IsFreeBlock (frame new) b → is_left (isize_of old) needed b ≡ true
-      unfolding is_left
-      all_free b is =
-          let past = is.low in
-          let high = is.high in
-          let isize = same_isize in
-          let fsize = same_fsize in
-          let l = low in
-          let s = start in
-          let lt : b < length needed = omega (arith, high, fsize, long) in
-          and_both _ _ (le-leb (isize_of old) b (omega (arith, past, isize, s))) (and_both _ _ (lt-ltb b (length needed) lt) (unmarked b is (λ z. absurd (omega (arith, z, past, isize, l))) lt (mark_at needed b) refl))
+    pub sets_are : (sets : Sets) → AreLeft old needed sets → length sets.blocks ≡ (frame old).fsize → length sets.inodes ≡ (tree (frame old)).inodes + 1 → AreSetsOf new sets.blocks sets.inodes
+    sets_are sets left room numbers = record {
+      blocks_room = room ∙ sym same_fsize;
+      inodes_room = numbers ∙ ap (λ n. n + 1) (sym same_inodes);
+      free = λ b e. left_free b (sym (left.blocks b) ∙ e);
+      all_free = λ b e. left.blocks b ∙ free_left b e;
+      numbers = λ i e. fresh_free i (sym (left.inodes i) ∙ e);
+      all_numbers = λ i e. left.inodes i ∙ free_fresh i e;
+    }

@@ -7,7 +7,7 @@ ghost use Rattle.v7_repair.specs.Runs.{HasRun};
 
 use crate::free::find_free;
 use crate::mended::{Mended, Repaired};
-use stable::Stable;
+use stable::{Failed, Stable};
 use std::alloc::Global;
 use v7_damage::{RepairFault, find_damage};
 use v7_inspect::{Seen, judge_inodes, seen_of};
@@ -40,7 +40,10 @@ pub fn repair<S: Stable>(alloc: Global, store: &mut S) -> Result<Mended, RepairF
         strong: true,
         ..seen_of(&known, &judged)
     };
-    let changed = mend(store, known.super_block.s_isize as u32, &known.counts)?;
+    let changed = match mend(store, known.super_block.s_isize as u32, &known.counts) {
+        Ok(changed) => changed,
+        Err(Failed) => return Err(RepairFault::Failed),
+    };
     let repaired = Repaired { changed, seen };
     Ok(Mended { repaired, sets })
 }
