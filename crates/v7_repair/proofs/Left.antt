@@ -95,8 +95,7 @@ module _ (image : Image) (i b : ℕ) where
           let a = any_is (λ k. (frame image).address i (Body k) == b) (range_with_len 0 count) near in
           (Body a.0, (named, below a.0 (in_range_of a.0 0 count a.1).1), eqb-true _ b a.2)
       by (inr far) =
-          let a = any_is (λ k. leb 10 k && not ((frame image).address i (Body k) == 0)) (range_with_len 0 count) (and_left _ _ far) in
-          (
+          let a = any_is (λ k. leb 10 k && not ((frame image).address i (Body k) == 0)) (range_with_len 0 count) (and_left _ _ far) in (
             Single,
             (named, (a.0, leb-true 10 a.0 (and_left _ _ a.2), below a.0 (in_range_of a.0 0 count a.1).1, λ z. clash ((frame image).address i (Body a.0) == 0) (eq-eqb _ 0 z) (and_right _ _ a.2))),
             eqb-true _ b (and_right _ _ far),

@@ -50,8 +50,7 @@ size_parts mark isize fsize sectors e =
     let low = and_right (mark == 1) (leb 3 isize && (leb isize 8193 && (ltb isize fsize && last))) e in
     let high = and_right (leb 3 isize) (leb isize 8193 && (ltb isize fsize && last)) low in
     let above = and_right (leb isize 8193) (ltb isize fsize && last) high in
-    let within = and_right (ltb isize fsize) last above in
-    (
+    let within = and_right (ltb isize fsize) last above in (
       leb-true 3 isize (and_left (leb 3 isize) (leb isize 8193 && (ltb isize fsize && last)) low),
       leb-true isize 8193 (and_left (leb isize 8193) (ltb isize fsize && last) high),
       ltb-true isize fsize (and_left (ltb isize fsize) last above),
@@ -85,13 +84,13 @@ can_mend image known counts is long same = record {
   weak = weak_without_damage (frame image) (frame-IsFrame image) is.undamaged;
   ends = sym (numbers_read image known.super_block _ is.super_is refl).starts;
   links = λ i in'. (
-    let range = inode_numbers image i in' in
-    let low = range.0 in
-    let high = range.1 in
-    let all = all_inodes image in
-    let count = is.count in
-    ap (λ (x : List ℕ). get_or x i 0) same ∙ is.counts_are i low (omega (arith, high, all, count, long))
-  );
+      let range = inode_numbers image i in' in
+      let low = range.0 in
+      let high = range.1 in
+      let all = all_inodes image in
+      let count = is.count in
+      ap (λ (x : List ℕ). get_or x i 0) same ∙ is.counts_are i low (omega (arith, high, all, count, long))
+      );
 }
 
 -- what is seen of the files stays, and there is nothing to mend

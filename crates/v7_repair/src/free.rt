@@ -54,11 +54,7 @@ fn is_unnamed<S: Stable>(
 }
 
 // Gives the i-numbers that a new file may have to sets without any. Nothing is changed.
-fn give_numbers<S: Stable>(
-    store: &mut S,
-    known: &Undamaged,
-    sets: &mut Sets,
-) -> Result<(), Failed>
+fn give_numbers<S: Stable>(store: &mut S, known: &Undamaged, sets: &mut Sets) -> Result<(), Failed>
     requires entries { HasEntries (S.sector_count store.old) known.now }
     requires none { sets.old.inodes ≡ replicate (length known.now.types.items) false }
     ensures numbers { S.tells → IsUndamaged (S.image store.old) known.now → OnOk result ((i : ℕ) → is_free sets.new.inodes i ≡ is_fresh (S.image store.old) i) }
@@ -92,11 +88,7 @@ pub(crate) fn find_free<S: Stable>(
     ensures cause { IsErrOf result fault.Failed → Rose (S.faults store.old) (S.faults store.new) }
     ensures looked { Looked S.Stable store.old store.new }
 {
-    let mut sets = Sets::new(
-        alloc,
-        known.super_block.s_fsize,
-        known.types.len() as u32,
-    )?;
+    let mut sets = Sets::new(alloc, known.super_block.s_fsize, known.types.len() as u32)?;
     give_blocks(known.super_block.s_isize as u32, needed, &mut sets);
     give_numbers(store, known, &mut sets)?;
     Ok(sets)
