@@ -1,21 +1,20 @@
 -- What is left by the tables is what is free after a repair.
-use Rattle.std.proofs.Common.{◌≡◌, ◌≢◌, ◌⊎◌, inl, inr, ℕ, ◌+◌, ◌-◌, ◌^◌, ◌<◌, ◌≤◌, Bool, true, false, cond, not, ◌==◌, ◌&&◌, ◌||◌, List, length, refl, sym, ap, subst, ◌∙◌, arith, ⊎_elim, ltb, leb, eq-eqb, Some, None}
-use Rattle.std.proofs.lemmas.Bool.{cases_Bool, eqb-true, ltb-true, leb-true, lt-ltb, le-ltb, le-leb, ne_eqb}
+use Rattle.std.proofs.Common.{◌≡◌, ◌≢◌, ◌⊎◌, inl, inr, ℕ, ◌+◌, ◌-◌, ◌^◌, ◌<◌, ◌≤◌, Bool, true, false, cond, not, ◌==◌, ◌&&◌, List, length, refl, sym, ap, subst, ◌∙◌, arith, leb, eq-eqb, Some, None}
+use Rattle.std.proofs.lemmas.Bool.{eqb-true, ltb-true, leb-true, lt-ltb, le-leb, ne_eqb}
 use Rattle.std.specs.FinMap.{get}
 use Rattle.std.specs.List.{range_with_len, list_any}
-use Rattle.index_sets.specs.Free.{is_free}
 use Rattle.v7_layout.specs.Numbers.{field}
 use Rattle.files_model.specs.Files.{Node, Files, sectors_of}
 use Rattle.files_model.proofs.Maps.{get-tabulated}
 use Rattle.stable.specs.Store.{Image}
 use Rattle.v7_map.specs.Image.{sector_at, inode_at, isize_of, inodes_before}
-use Rattle.v7_map.specs.Frame.{Place, Body, Single, Double, frame, is_directory}
+use Rattle.v7_map.specs.Frame.{Place, Body, Single, Double, frame}
 use Rattle.v7_map.specs.Tree.{tree, is_named}
 use Rattle.v7_map.specs.View.{view, files_of, node_at}
 use Rattle.v7_map.specs.Weak.{IsWeak}
 use Rattle.v7_map.proofs.AnyFrame.{frame-IsFrame}
 use Rattle.v7_map.proofs.Frames.{and_left, and_right}
-use Rattle.v7_map.proofs.Members.{In, In-range, any_is, any_in, in_range_of}
+use Rattle.v7_map.proofs.Members.{In-range, any_is, any_in, in_range_of}
 use Rattle.v7_map.proofs.Used.{named_used}
 use Rattle.v7_map.proofs.Walks.{and_both, or_cases, or_left, or_right}
 use Rattle.v7_damage.specs.Marks.{mark_at}

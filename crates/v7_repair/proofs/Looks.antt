@@ -1,5 +1,5 @@
 -- Looks at a volume, and then its mending.
-use Rattle.std.proofs.Common.{◌≡◌, ◌⊎◌, inl, inr, ℕ, ◌+◌, ◌^◌, ◌<◌, ◌≤◌, Result, Ok, Err, refl, sym, subst, arith}
+use Rattle.std.proofs.Common.{◌≡◌, inl, inr, ℕ, ◌^◌, ◌<◌, ◌≤◌, Result, Ok, Err, refl, subst, arith}
 use Rattle.std.specs.Result.{IsErrOf}
 use Rattle.stable.specs.Counts.{Rose}
 use Rattle.stable.specs.Looked.{Looked}
@@ -12,7 +12,7 @@ use Rattle.v7_damage.specs.declared.damage.RepairFault.TheVariants.{Damaged, Fai
 use Rattle.v7_damage.specs.Undamaged.{IsFaultOf}
 use Rattle.v7_damage.specs.Tests.{IsNoDamage}
 use Rattle.v7_mend.specs.Keeps.{KeepsVolume}
-use Rattle.v7_mend.specs.Runs.{HasPut, CountsPuts}
+use Rattle.v7_mend.specs.Runs.{CountsPuts}
 use Rattle.v7_mend.proofs.Running.{look_puts, looks_first}
 use Rattle.v7_repair.specs.Leaves.{MayMend, LeavesFault}
 use Rattle.v7_repair.specs.Runs.{HasRun, Says, repair_puts}

@@ -1,5 +1,5 @@
 -- What is known of a volume is enough to mend it, and what is seen of it then.
-use Rattle.std.proofs.Common.{◌≡◌, ◌≢◌, ℕ, ◌+◌, ◌-◌, ◌*◌, ◌<◌, ◌≤◌, Bool, true, false, ◌==◌, ◌&&◌, leb, ltb, List, length, get_or, refl, sym, ap, subst, ◌∙◌, arith, ⊎_elim}
+use Rattle.std.proofs.Common.{◌≡◌, ℕ, ◌-◌, ◌*◌, ◌<◌, ◌≤◌, Bool, true, false, ◌==◌, ◌&&◌, leb, ltb, List, length, get_or, refl, sym, ap, subst, ◌∙◌, arith, ⊎_elim}
 use Rattle.std.proofs.lemmas.Bool.{cases_lt, leb-true, ltb-true}
 use Rattle.std.proofs.lemmas.List.{get_or_past}
 use Rattle.index_sets.specs.Free.{is_free}

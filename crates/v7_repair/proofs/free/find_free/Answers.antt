@@ -1,4 +1,4 @@
-use Rattle.std.proofs.Common.{◌≡◌, ◌∙◌, ℕ, List, Bool, refl, sym, ap}
+use Rattle.std.proofs.Common.{◌∙◌, List, Bool, refl, sym, ap}
 use Rattle.index_sets.specs.Free.{is_free}
 use Rattle.stable.specs.Store.{Image}
 use Rattle.v7_damage.proofs.Supers.{numbers_read}

@@ -1,6 +1,5 @@
-use Rattle.std.proofs.Common.{rules, arith, ◌≡◌, ◌∙◌, ◌+◌, ℕ, Bool, List, true, false, length, replicate, set, sym, ap, subst}
+use Rattle.std.proofs.Common.{rules, arith, ◌≡◌, ◌∙◌, ◌+◌, ℕ, Bool, List, true, false, length, set, sym, ap, subst}
 use Rattle.std.proofs.lemmas.List.{length-set, length-replicate}
-use Rattle.index_sets.specs.Free.{is_free}
 use Rattle.v7_damage.specs.Marks.{mark_at}
 use Rattle.v7_repair.specs.Free.{is_left}
 use Rattle.v7_repair.proofs.Giving.{HasBelow, given_none, given_one, given_all, passed_by, left_above, left_below, left_marked, left_unmarked}

@@ -1,9 +1,7 @@
-use Rattle.std.proofs.Common.{rules, arith, ◌≡◌, ◌∙◌, ◌+◌, ◌≤◌, ℕ, Bool, List, true, false, length, replicate, set, sym, ap, subst}
+use Rattle.std.proofs.Common.{rules, arith, ◌≡◌, ◌∙◌, ◌+◌, ℕ, Bool, List, true, false, length, set, sym, ap, subst}
 use Rattle.std.proofs.lemmas.List.{length-set, length-replicate}
 use Rattle.stable.specs.Store.{Image}
 use Rattle.stable.proofs.Looking.{no_look, looks_again}
-use Rattle.v7_map.specs.Frame.{frame}
-use Rattle.v7_map.specs.Tree.{tree}
 use Rattle.v7_damage.specs.Stored.{Keeps}
 use Rattle.v7_damage.specs.Undamaged.{HasEntries, IsUndamaged}
 use Rattle.v7_repair.specs.Free.{is_fresh, is_unnamed}

@@ -1,5 +1,4 @@
 use Rattle.std.proofs.Common.{arith, ◌≡◌, ◌∙◌, inr, refl, sym, subst}
-use Rattle.stable.specs.Looked.{Looked}
 use Rattle.stable.specs.Store.{Image}
 use Rattle.stable.proofs.Looking.{looks_again}
 use Rattle.v7_damage.specs.Undamaged.{IsUndamaged}
@@ -10,7 +9,7 @@ use Rattle.v7_mend.specs.Changes.{Differ, MayChange}
 use Rattle.v7_mend.specs.Repairs.{CanMend, IsMended}
 use Rattle.v7_repair.specs.Free.{AreLeft}
 use Rattle.v7_sets.specs.declared.sets.Sets.{Sets}
-use Rattle.v7_repair.proofs.Looks.{fault_left, no_fault_left, run_looked, run_failed, run_done, kept_by}
+use Rattle.v7_repair.proofs.Looks.{run_looked, run_failed, run_done, kept_by}
 use Rattle.v7_repair.proofs.Mends.{can_mend, few_puts, fits_store, is_repaired}
 use Rattle.v7_repair.proofs.repairing.repair.Goals as goal
 
