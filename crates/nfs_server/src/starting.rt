@@ -1,7 +1,7 @@
 //! How a volume is started and stopped.
 ghost use Rattle.std.specs.Prelude.{◌≡◌, []};
 ghost use Rattle.stable.specs.Looked.{KeepsImage};
-ghost use Rattle.volume.specs.Mounted.{store_of, is_hurt, KeepsRest};
+ghost use Rattle.volume.specs.Mounted.{store_of, is_hurt, SameButStore};
 ghost use Rattle.volume.specs.Rests.{Rests};
 ghost use Rattle.nfs_worker.specs.Account.{Grew};
 ghost use Rattle.nfs_server.specs.Course.{IsStarted, stop_of};
@@ -23,7 +23,7 @@ pub struct Recovery {
 pub fn start<S: Tended>(volume: &mut Volume<S>, down: bool)
     requires rest { Rests S.Stable volume.old }
     ensures rest { Rests S.Stable volume.new }
-    ensures kept { KeepsRest volume.old volume.new }
+    ensures kept { SameButStore volume.old volume.new }
     ensures keeps { KeepsImage S.Stable (store_of volume.old) (store_of volume.new) }
     ensures started { IsStarted down (S.snapshot_of (store_of volume.old)) (S.snapshot_of (store_of volume.new)) }
 {

@@ -2,7 +2,7 @@
 use Rattle.std.proofs.Common.{arith, ◌≡◌, ◌∙◌, ◌≤◌, ℕ, Bool, true, false, refl, sym, ap}
 use Rattle.stable.specs.Counts.{Rose, RoseBy}
 use Rattle.stable.specs.declared.store.Stable.{Ghosts}
-use Rattle.volume.specs.Mounted.{store_of, is_hurt, KeepsRest}
+use Rattle.volume.specs.Mounted.{store_of, is_hurt, SameButStore}
 use Rattle.volume.specs.Rests.{Rests}
 use Rattle.volume.specs.declared.mounted.Volume.{Volume}
 use Rattle.nfs_worker.specs.Resting.{StaysAtRest}
@@ -13,7 +13,7 @@ module _ {S : Type 0} (s : Ghosts S) where
   stays_so volume rest = record { rest = rest; hurt = λ hurt sound. let none = sym hurt ∙ sound in cc }
 
   -- its store was tended before
-  pub stays_after : {a b c : Volume S} → KeepsRest a b → s.faults (store_of a) ≤ s.faults (store_of b) → StaysAtRest s b c → StaysAtRest s a c
+  pub stays_after : {a b c : Volume S} → SameButStore a b → s.faults (store_of a) ≤ s.faults (store_of b) → StaysAtRest s b c → StaysAtRest s a c
   stays_after {a} {b} {c} kept later q = record {
     rest = q.rest;
     hurt = λ hurt sound. let rose = q.hurt hurt (ap (λ (v : Volume S). is_hurt v) kept ∙ sound) in omega (arith, rose, later);

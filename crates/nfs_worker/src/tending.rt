@@ -1,7 +1,7 @@
 //! What a worker does for the store of a volume before it takes an event.
 ghost use Rattle.stable.specs.Looked.{KeepsImage};
 ghost use Rattle.nfs_worker.specs.Tending.{IsPolledAt, IsTried, IsTended};
-ghost use Rattle.volume.specs.Mounted.{store_of, KeepsRest};
+ghost use Rattle.volume.specs.Mounted.{store_of, SameButStore};
 ghost use Rattle.volume.specs.Rests.{Rests};
 
 use stable::{State, Tended};
@@ -11,7 +11,7 @@ use volume::Volume;
 fn poll_at<S: Tended>(volume: &mut Volume<S>, is_new_second: bool)
     requires rest { Rests S.Stable volume.old }
     ensures rest { Rests S.Stable volume.new }
-    ensures kept { KeepsRest volume.old volume.new }
+    ensures kept { SameButStore volume.old volume.new }
     ensures keeps { KeepsImage S.Stable (store_of volume.old) (store_of volume.new) }
     ensures polled { IsPolledAt is_new_second (S.snapshot_of (store_of volume.old)) (S.snapshot_of (store_of volume.new)) }
 {
@@ -24,7 +24,7 @@ fn poll_at<S: Tended>(volume: &mut Volume<S>, is_new_second: bool)
 fn try_in_error<S: Tended>(volume: &mut Volume<S>)
     requires rest { Rests S.Stable volume.old }
     ensures rest { Rests S.Stable volume.new }
-    ensures kept { KeepsRest volume.old volume.new }
+    ensures kept { SameButStore volume.old volume.new }
     ensures keeps { KeepsImage S.Stable (store_of volume.old) (store_of volume.new) }
     ensures tried { IsTried (S.snapshot_of (store_of volume.old)) (S.snapshot_of (store_of volume.new)) }
 {
@@ -37,7 +37,7 @@ fn try_in_error<S: Tended>(volume: &mut Volume<S>)
 pub fn tend<S: Tended>(volume: &mut Volume<S>, is_new_second: bool)
     requires rest { Rests S.Stable volume.old }
     ensures rest { Rests S.Stable volume.new }
-    ensures kept { KeepsRest volume.old volume.new }
+    ensures kept { SameButStore volume.old volume.new }
     ensures keeps { KeepsImage S.Stable (store_of volume.old) (store_of volume.new) }
     ensures tended { IsTended is_new_second (S.snapshot_of (store_of volume.old)) (S.snapshot_of (store_of volume.new)) }
 {
