@@ -66,3 +66,9 @@ module _ (call : Call) (cred : Cred) (now : ℕ) where
           torn = (torn_planned old new same some).torn;
           strong = subst (λ (x : Image). IsStrong (frame x)) (sym at) (subst IsStrong (sym (prefix-at (λ (x : Image). frame x ≡ frame image) puts image is.frames some.0)) strong);
         }
+
+    -- where things are stays
+    pub frame_planned : (old new : Image) → old ≡ image → AfterSome puts old new → frame new ≡ frame image
+    frame_planned old new same some =
+        let at : new ≡ put_all (take some.0 puts) image = some.2 ∙ ap (put_all (take some.0 puts)) same in
+        ap (λ (x : Image). frame x) at ∙ prefix-at (λ (x : Image). frame x ≡ frame image) puts image is.frames some.0

@@ -1,22 +1,24 @@
 -- What a call does to a volume on a store.
-use Rattle.std.specs.Prelude.{◌≡◌, ℕ, ◌≤◌, length, [], ◌∷◌}
+use Rattle.std.specs.Prelude.{◌≡◌, ℕ, ◌≤◌, Bool, true, false, length, [], ◌∷◌}
 use Rattle.files_model.specs.declared.call.Call.{Call}
 use Rattle.files_model.specs.declared.credential.Cred.{Cred}
 use Rattle.files_model.specs.declared.reply.Reply.{Reply}
 use Rattle.files_model.specs.declared.reply.Reply.TheVariants as reply
 use Rattle.files_model.specs.declared.call.Call.TheVariants as call
 use Rattle.files_model.specs.Files.{Files}
-use Rattle.files_model.specs.Step.{step, most_read}
+use Rattle.files_model.specs.Step.{step, most_read, is_change}
 use Rattle.files_model.specs.Torn.{Torn}
 use Rattle.stable.specs.Counts.{Rose}
 use Rattle.stable.specs.Moments.{LeavesOnly}
 use Rattle.stable.specs.Store.{Image}
+use Rattle.stable.specs.declared.store.Stable.{Ghosts}
 use Rattle.v7_map.specs.Frame.{frame}
 use Rattle.v7_map.specs.View.{view}
 use Rattle.v7_map.specs.Weak.{IsWeak, IsStrong}
 use Rattle.v7_map.specs.Plans.{IsTornImage}
 use Rattle.volume.specs.declared.outcome.Outcome.{Outcome}
 use Rattle.volume.specs.declared.outcome.Outcome.TheVariants as outcome
+use Rattle.volume.specs.Keeps.{SameName}
 
 -- the reply and the files are those of the step
 pub record IsDone (files : Files) (call : Call) (cred : Cred) (now : ℕ) (reply : Reply) (image : Image) : Type 0 where
@@ -40,10 +42,10 @@ Leaves files call cred now (outcome.Reply reply) image = IsDone files call cred 
 Leaves files call cred now outcome.Io image = IsInterrupted files call cred now image
 Leaves files call cred now outcome.NoMemory image = IsKept files image
 
--- Io has a cause
+-- the count of faults doesn't fall, and Io has a cause
 abbrev pub HasFault : Outcome → ℕ → ℕ → Type 0
 HasFault (outcome.Reply reply) before now = before ≤ now
-HasFault outcome.Io before now = Rose before now
+HasFault outcome.Io before now = (before ≤ now) × Rose before now
 HasFault outcome.NoMemory before now = before ≤ now
 
 -- What a crash in the call may leave: torn files; and where there was no memory, the files before it.
@@ -75,12 +77,12 @@ HasFormOf call (outcome.Reply reply) = HasForm call reply
 HasFormOf call outcome.Io = Unit {0}
 HasFormOf call outcome.NoMemory = TakesMemory call
 
--- A call was made on a volume with nothing to mend.
-pub record IsApplied {R : Type 0} (tells : Type 0) (image : R → Image) (faults moment : R → ℕ) (since : R → ℕ → Image → Type 0) (old new : R) (call : Call) (cred : Cred) (now : ℕ) (result : Outcome) : Type 0 where
-  pub leaves : tells → IsStrong (frame (image old)) → Leaves (view (image old)) call cred now result (image new)
+-- A call was made on a volume with nothing to mend. `s` is what the store's type tells.
+pub record IsApplied {S : Type 0} (s : Ghosts S) (old new : S) (call : Call) (cred : Cred) (now : ℕ) (result : Outcome) : Type 0 where
+  pub leaves : s.tells → IsStrong (frame (s.image old)) → Leaves (view (s.image old)) call cred now result (s.image new)
   pub form : HasFormOf call result
-  pub cause : HasFault result (faults old) (faults new)
-  pub crash : LeavesOnly moment since old new (λ i. IsStrong (frame (image old)) → CrashLeaves (view (image old)) call cred now result i)
+  pub cause : HasFault result (s.faults old) (s.faults new)
+  pub crash : LeavesOnly s.moment s.left_since old new (λ i. IsStrong (frame (s.image old)) → CrashLeaves (view (s.image old)) call cred now result i)
 
 -- how many sectors a call puts at most
 abbrev pub most_puts : Call → ℕ
@@ -88,3 +90,42 @@ most_puts (call.Getattr file) = 0
 most_puts (call.Read file offset count) = 0
 most_puts (call.Write file offset bytes) = 18
 most_puts c = 0
+
+-- ---- hurt or not
+
+-- whether a call that ended so hurts its volume
+abbrev pub hurts : Call → Outcome → Bool
+hurts call (outcome.Reply reply) = false
+hurts call outcome.Io = is_change call
+hurts call outcome.NoMemory = false
+
+-- What each outcome leaves of the files: those of the step; torn ones; those before.
+abbrev pub LeavesFiles : Files → Call → Cred → ℕ → Outcome → Files → Type 0
+LeavesFiles files call cred now (outcome.Reply r) new = (r ≡ (step files call cred now).0) × (new ≡ (step files call cred now).1)
+LeavesFiles files call cred now outcome.Io new = Torn files ((call, cred) ∷ []) now new
+LeavesFiles files call cred now outcome.NoMemory new = new ≡ files
+
+-- The volume is hurt exactly from an Io of a change on to the next mend that is done, which each later call begins with.
+abbrev pub Hurts : Call → Outcome → Bool → Bool → Type 0
+Hurts call (outcome.Reply r) was is = is ≡ false
+Hurts call outcome.Io was is = (is_change call ≡ true → is ≡ true) × (is_change call ≡ false → was ≡ false → is ≡ false)
+Hurts call outcome.NoMemory was is = was ≡ false → is ≡ false
+
+-- a reply has the form of its call's; without a mend only what takes memory finds none
+abbrev pub HasFormAt : Bool → Call → Outcome → Type 0
+HasFormAt hurt call (outcome.Reply r) = HasForm call r
+HasFormAt hurt call outcome.Io = Unit {0}
+HasFormAt hurt call outcome.NoMemory = hurt ≡ false → TakesMemory call
+
+-- A moment of a call: what a crash leaves of the files, and the volume's name.
+pub record IsMomentOf (old : Image) (call : Call) (cred : Cred) (now : ℕ) (result : Outcome) (image : Image) : Type 0 where
+  pub files : CrashLeaves (view old) call cred now result image
+  pub name : SameName old image
+
+-- A call was made on a volume at rest, hurt or not: its files are the view that it found. `s` is what the store's type tells.
+pub record Applies {S : Type 0} (s : Ghosts S) (old new : S) (was is : Bool) (call : Call) (cred : Cred) (now : ℕ) (result : Outcome) : Type 0 where
+  pub leaves : s.tells → LeavesFiles (view (s.image old)) call cred now result (view (s.image new))
+  pub hurts : Hurts call result was is
+  pub form : HasFormAt was call result
+  pub cause : HasFault result (s.faults old) (s.faults new)
+  pub crash : LeavesOnly s.moment s.left_since old new (IsMomentOf (s.image old) call cred now result)

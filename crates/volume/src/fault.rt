@@ -1,16 +1,7 @@
-// Why a volume isn't opened, and why a part of a call isn't done.
+// Why a part of a call isn't done.
 use files_model::NoMemory;
 use stable::Failed;
 use std::alloc::{AllocError, AllocFailed};
-
-/// Why a volume can't be opened. Nothing was changed.
-#[derive(Clone, Copy, Debug, PartialEq, Eq)]
-pub enum OpenFault {
-    /// There is no super-block, or the sizes that it tells can't be.
-    Sizes,
-    /// The device failed.
-    Failed,
-}
 
 /// Why bytes weren't read. Nothing was changed.
 #[derive(Clone, Copy, PartialEq, Eq)]

@@ -10,7 +10,7 @@ use v7_map::{attributes_of, find};
 
 /// Tells the attributes of a file. Nothing is changed.
 pub fn getattr<S: Stable>(store: &mut S, file: FileId, cred: &Cred, now: u32) -> Outcome
-    ensures applied { IsApplied S.tells S.image S.faults S.moment S.left_since store.old store.new (Getattr file) cred.now now result }
+    ensures applied { IsApplied S.Stable store.old store.new (Getattr file) cred.now now result }
     ensures looked { Looked S.Stable store.old store.new }
 {
     match find(store, file) {

@@ -1,18 +1,20 @@
-//! The calls on a volume, over any store of its sectors.
+//! The calls on a volume, over any store of its sectors: it is opened mended, mended again after a failed change, and stopped with its free chain.
 #![tactic(auto)]
 
 mod build;
+mod calling;
 mod fault;
 mod getattr;
+mod marking;
 mod mounted;
 mod opening;
 mod outcome;
 mod prepare;
 mod prepared;
 mod read;
+mod starting;
 mod write;
 
-pub use fault::OpenFault;
 pub use mounted::Volume;
 pub use outcome::Outcome;
 

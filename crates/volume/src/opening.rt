@@ -1,12 +1,11 @@
-// What the opening of a volume looks at.
-ghost use Rattle.std.specs.Prelude.{◌≡◌, ◌<◌, ◌≤◌, IsErrOf};
-ghost use Rattle.stable.specs.Counts.{Rose};
+// The name and the root of a volume.
+ghost use Rattle.std.specs.Prelude.{◌≡◌, ◌<◌, ◌≤◌, IfOk};
+ghost use Rattle.stable.specs.Counts.{HasCause};
 ghost use Rattle.stable.specs.Looked.{Looked};
-ghost use Rattle.volume.specs.Opens.{Opens};
+ghost use Rattle.volume.specs.Opens.{HasTitle};
 
-use crate::fault::OpenFault;
 use files_model::FileId;
-use stable::Stable;
+use stable::{Failed, Stable};
 use v7_layout::{Record, Super};
 use v7_map::{get_sector, has_sizes, inode_in, inode_sector_of};
 
@@ -20,32 +19,27 @@ pub struct Title {
     pub root: FileId,
 }
 
-/// Looks whether there is a volume, and reads its name and its root.
-pub fn look<S: Stable>(store: &mut S) -> Result<Title, OpenFault>
-    ensures found { S.tells → Opens (S.image store.old) result }
-    ensures failed { IsErrOf result OpenFault.Failed → Rose (S.faults store.old) (S.faults store.new) }
+/// Reads the name and the root of a volume. None where its sizes can't be.
+pub fn look<S: Stable>(store: &mut S) -> Result<Option<Title>, Failed>
+    ensures found { S.tells → IfOk result (λ title. HasTitle (S.image store.old) title) }
+    ensures cause { HasCause (S.faults store.old) (S.faults store.new) result }
     ensures looked { Looked S.Stable store.old store.new }
 {
     let sectors = store.sectors();
     if sectors < 2 {
-        return Err(OpenFault::Sizes);
+        return Ok(None);
     }
-    let Ok(sector) = get_sector(store, 1) else {
-        return Err(OpenFault::Failed);
-    };
-    let super_block = Super::read(&sector);
+    let super_block = Super::read(&get_sector(store, 1)?);
     if !has_sizes(&super_block, sectors) {
-        return Err(OpenFault::Sizes);
+        return Ok(None);
     }
-    let Ok(sector) = get_sector(store, inode_sector_of(ROOT)) else {
-        return Err(OpenFault::Failed);
-    };
+    let sector = get_sector(store, inode_sector_of(ROOT))?;
     let root = FileId {
         ino: ROOT,
         generation: inode_in(&sector, ROOT).generation,
     };
-    Ok(Title {
+    Ok(Some(Title {
         name: super_block.s_fpack,
         root,
-    })
+    }))
 }

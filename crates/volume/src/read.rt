@@ -76,7 +76,7 @@ pub fn read<S: Stable>(
     cred: &Cred,
     now: u32,
 ) -> Outcome
-    ensures applied { IsApplied S.tells S.image S.faults S.moment S.left_since store.old store.new (Read file offset count) cred.now now result }
+    ensures applied { IsApplied S.Stable store.old store.new (Read file offset count) cred.now now result }
     ensures looked { Looked S.Stable store.old store.new }
 {
     let found = match find(store, file) {

@@ -17,7 +17,7 @@ returns-then-sectors-lt2-clause-found g c told =
 pub returns-then-not-has_sizes-clause-found : goal.returns-then-not-has_sizes-clause-found
 returns-then-not-has_sizes-clause-found g c told =
     let shape = as_long g.S.Stable.sector_count g.met.S.Stable.clocked g.met.S.Stable.shape c.args.store.now told in
-    let is = c.read-super_block.ensures.record_of ∙ ap super_of (c.in-Ok.ensures.done told) in
+    let is = c.read-super_block.ensures.record_of ∙ ap super_of (c.in_ok-get_sector.ensures.done told) in
     opens_read (g.S.Stable.image c.args.store.now) c.sectors-sectors.result c.read-super_block.result (shape.size ∙ sym c.sectors-sectors.ensures) is ∙ sym c.has_sizes.ensures ∙ search rules
 
 pub returns-clause-found : goal.returns-clause-found
@@ -25,10 +25,10 @@ returns-clause-found g c told =
     let S = g.S.Stable in
     let image = S.image c.args.store.now in
     let shape = as_long S.sector_count g.met.S.Stable.clocked g.met.S.Stable.shape c.args.store.now told in
-    let is : c.read-super_block.result ≡ super_of (sector_at image 1) = c.read-super_block.ensures.record_of ∙ ap super_of (c.in-Ok.ensures.done told) in
+    let is : c.read-super_block.result ≡ super_of (sector_at image 1) = c.read-super_block.ensures.record_of ∙ ap super_of (c.in_ok-get_sector.ensures.done told) in
     let can : has_sizes c.read-super_block.result.mark c.read-super_block.result.s_isize c.read-super_block.result.s_fsize c.sectors-sectors.result ≡ true = sym c.has_sizes.ensures ∙ search rules in
     record {
       sizes = opens_read image c.sectors-sectors.result c.read-super_block.result (shape.size ∙ sym c.sectors-sectors.ensures) is ∙ can;
       name_is = name_read image c.read-super_block.result is;
-      root_is = λ z. record { ino = 2; generation = root_read c.sectors-sectors.result c.read-super_block.result can image is _ (c.in-Ok-get_sector.ensures.done told ∙ (λ z. get_or (c.in-Ok.ensures.looked.image z) (c.inode_sector_of.ensures z) [])) c.inode_in.result c.inode_in.ensures.inode z };
+      root_is = λ z. record { ino = 2; generation = root_read c.sectors-sectors.result c.read-super_block.result can image is _ (c.in_ok-sector.ensures.done told ∙ (λ z. get_or (c.in_ok-get_sector.ensures.looked.image z) (c.inode_sector_of.ensures z) [])) c.inode_in.result c.inode_in.ensures.inode z };
     }

@@ -3,7 +3,8 @@ use Rattle.files_model.specs.declared.call.Call.{Call}
 use Rattle.files_model.specs.declared.call.Call.TheVariants.{Write}
 use Rattle.stable.specs.Store.{Image}
 use Rattle.stable.proofs.Clocked.{goes_on, weaker, ends}
-use Rattle.volume.proofs.Applying.{torn_same, untouched_same, kept_same, done_planned, torn_planned, interrupted_planned}
+use Rattle.volume.proofs.Applying.{torn_same, frame_planned, untouched_same, kept_same, done_planned, torn_planned, interrupted_planned}
+use Rattle.volume.proofs.Naming.{name_same, name_planned}
 use Rattle.volume.proofs.Counting.{puts_from}
 use Rattle.volume.proofs.write.write.Goals as goal
 
@@ -68,3 +69,33 @@ returns-in-Ok-clause-snapshot g c = puts_from _ 18 _ _ _ _ _ _ c.in-Planned.ensu
 
 pub returns-in-Planned-clause-snapshot : goal.returns-in-Planned-clause-snapshot
 returns-in-Planned-clause-snapshot g c = puts_from _ 18 _ _ _ _ _ _ c.in-Planned.ensures.looked.snapshot c.in-Planned.ensures.reason c.in-Planned.ensures.stands.few c.in-Err.ensures.snapshot
+
+pub returns-in-Ok-clause-frame : goal.returns-in-Ok-clause-frame
+returns-in-Ok-clause-frame g c tells strong =
+    let S = g.S.Stable in
+    let old : Image = S.image c.args.store.now in
+    frame_planned (Write c.args.file c.args.offset c.args.bytes.now) c.args.cred.now c.args.now old c.in-Planned.plan c.in-Planned.attr (c.in-Planned.ensures.prepared tells strong) (S.image c.prepare.new.store) (S.image c.run_plan.new.store)
+    c.in-Planned.ensures.looked.image (ends g.met.S.Stable.clocked c.in-Ok.ensures.crash tells)
+
+pub returns-in-Ok-clause-name : goal.returns-in-Ok-clause-name
+returns-in-Ok-clause-name g c =
+    let S = g.S.Stable in
+    let old : Image = S.image c.args.store.now in
+    let same = c.in-Planned.ensures.looked.image in
+    goes_on (weaker c.in-Planned.ensures.looked.crash (λ d left is. name_same old d is)) c.in-Ok.ensures.crash
+    (λ d left some. name_planned c.in-Planned.plan old (S.image c.prepare.new.store) d same c.in-Planned.ensures.stands.past some)
+
+pub returns-in-Planned-clause-frame : goal.returns-in-Planned-clause-frame
+returns-in-Planned-clause-frame g c tells strong =
+    let S = g.S.Stable in
+    let old : Image = S.image c.args.store.now in
+    frame_planned (Write c.args.file c.args.offset c.args.bytes.now) c.args.cred.now c.args.now old c.in-Planned.plan c.in-Planned.attr (c.in-Planned.ensures.prepared tells strong) (S.image c.prepare.new.store) (S.image c.run_plan.new.store)
+    c.in-Planned.ensures.looked.image (ends g.met.S.Stable.clocked c.in-Err.ensures.crash tells)
+
+pub returns-in-Planned-clause-name : goal.returns-in-Planned-clause-name
+returns-in-Planned-clause-name g c =
+    let S = g.S.Stable in
+    let old : Image = S.image c.args.store.now in
+    let same = c.in-Planned.ensures.looked.image in
+    goes_on (weaker c.in-Planned.ensures.looked.crash (λ d left is. name_same old d is)) c.in-Err.ensures.crash
+    (λ d left some. name_planned c.in-Planned.plan old (S.image c.prepare.new.store) d same c.in-Planned.ensures.stands.past some)
