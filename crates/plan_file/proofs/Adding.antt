@@ -1,11 +1,11 @@
 -- Puts are added to a plan.
-use Rattle.std.proofs.Common.{◌≡◌, ◌≢◌, ℕ, get_or, ◌+◌, ◌<◌, ◌≤◌, List, [], ◌∷◌, ◌++◌, length, subst, sym, arith, length-append}
+use Rattle.std.proofs.Common.{◌≡◌, ◌≢◌, ℕ, get_or, ◌+◌, ◌<◌, ◌≤◌, List, [], ◌∷◌, ◌++◌, length, subst, sym, ap, arith, length-append}
 use Rattle.std.specs.List.{AllByRecursion}
 use Rattle.v7_map.proofs.Puts.{all_append}
 use Rattle.plan_file.specs.Contents.{Fits}
 use Rattle.files_model.specs.declared.attributes.Attr.{Attr}
 use Rattle.files_model.specs.declared.call.WriteItem.{WriteItem}
-use Rattle.plan_file.specs.Planned.{CanBePut, IsReady}
+use Rattle.plan_file.specs.Planned.{CanBePut, IsReady, plan_puts}
 use Rattle.plan_file.specs.Places.{AreWithin}
 use Rattle.plan_file.specs.declared.places.Places.{Places}
 
@@ -29,8 +29,9 @@ pub fits-then : (sectors m n : ℕ) (first second third : List (ℕ × List ℕ)
 fits-then sectors m n first second third a b = record { stand = λ h. b.stand (a.stand h); past = λ h. b.past (a.past h); few = let x = a.few in let y = b.few in omega arith }
 
 -- so they can be put
-pub fits-put : (sectors most : ℕ) (old puts : List (ℕ × List ℕ)) → old ≡ [] → Fits sectors most old puts → CanBePut sectors puts
-fits-put sectors most old puts none fits = record {
+pub fits-put : (sectors most : ℕ) (old puts : List (ℕ × List ℕ)) → most ≤ plan_puts → old ≡ [] → Fits sectors most old puts → CanBePut sectors puts
+fits-put sectors most old puts le none fits = record {
+  few = let few = fits.few in let long = ap length none in omega (arith, le, few, long);
   stand = fits.stand (subst (AllByRecursion (λ (put : ℕ × List ℕ). put.0 < sectors)) (sym none) tt);
   past = fits.past (subst (AllByRecursion (λ (put : ℕ × List ℕ). 2 ≤ put.0)) (sym none) tt);
 }

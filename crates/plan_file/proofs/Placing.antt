@@ -4,7 +4,8 @@ use Rattle.std.proofs.lemmas.Bool.{cases_eq, cases_lt, cases_Bool, ne_eqb}
 use Rattle.std.specs.List.{range_with_len, count_by}
 use Rattle.v7_space.proofs.Counting.{one, count-cons}
 use Rattle.plan_file.specs.Draft.{holds}
-use Rattle.plan_file.specs.Free.{count_from, AreSpare}
+use Rattle.v7_sets.specs.Sets.{AreSpare}
+use Rattle.plan_file.specs.Free.{count_from}
 use Rattle.index_sets.specs.Free.{is_free, IsLowestFrom}
 use Rattle.plan_file.specs.Places.{AreWithin}
 use Rattle.plan_file.specs.declared.places.Places.{Places}

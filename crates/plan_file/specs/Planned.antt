@@ -28,8 +28,13 @@ pub record IsPlanned (image : Image) (file : FileId) (ws : List WriteItem) (now 
   pub cheap : length puts ≤ cost (view image) file ws now
   pub sets : AreSetsOf (put_all puts image) left.blocks left.inodes
 
--- each put of a plan is past the super-block and within a store of so many sectors
+-- how many puts a plan for one file has at most: its 138 sectors, the old last one, the block of addresses and the inode
+abbrev pub plan_puts : ℕ
+plan_puts = 141
+
+-- a plan is no longer than that, and each of its puts is past the super-block and within a store of so many sectors
 pub record CanBePut (sectors : ℕ) (puts : List (ℕ × List ℕ)) : Type 0 where
+  pub few : length puts ≤ plan_puts
   pub stand : AllStand sectors puts
   pub past : AllPastSuperBlock puts
 

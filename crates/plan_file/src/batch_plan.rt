@@ -13,10 +13,10 @@ ghost use Rattle.v7_map.specs.Found.{IsFile};
 ghost use Rattle.v7_map.specs.Frame.{frame};
 ghost use Rattle.v7_map.specs.Image.{inode_sector};
 ghost use Rattle.v7_map.specs.Weak.{IsStrong};
-ghost use Rattle.v7_sets.specs.Sets.{AreSetsOf};
+ghost use Rattle.v7_sets.specs.Sets.{AreSetsOf, AreSpare};
 ghost use Rattle.plan_file.specs.Accepted.{kept_of};
 ghost use Rattle.plan_file.specs.Contents.{Fits};
-ghost use Rattle.plan_file.specs.Free.{AreSpare};
+ghost use Rattle.plan_file.specs.Free.{HasFewer};
 ghost use Rattle.plan_file.specs.Planned.{AreBatchPuts, IsReady, IsPlanned, CanBePut};
 
 use crate::decide::decide;
@@ -117,7 +117,7 @@ fn plan_found<S: Stable>(
     requires spare { AreSpare (S.sector_count store.old) sets.old.blocks }
     ensures planned { S.tells → IsStrong (frame (S.image store.old)) → AreSetsOf (S.image store.old) sets.old.blocks sets.old.inodes → IsFile (S.image store.old) file found.now → IfOk result (λ r. IsPlanned (S.image store.old) file batch.now now sets.new r.plan r.replies.items) }
     ensures fits { IfOk result (λ r. CanBePut (S.sector_count store.old) r.plan) }
-    ensures fewer { (a : ℕ) → is_free sets.new.blocks a ≡ true → is_free sets.old.blocks a ≡ true }
+    ensures fewer { HasFewer sets.old sets.new }
     ensures kept { OnErr result (sets.new ≡ sets.old) }
     ensures cause { HasCause (S.faults store.old) (S.faults store.new) result }
     ensures looked { Looked S.Stable store.old store.new }
@@ -166,7 +166,7 @@ pub fn plan_writes<S: Stable>(
     requires spare { AreSpare (S.sector_count store.old) sets.old.blocks }
     ensures planned { S.tells → IsStrong (frame (S.image store.old)) → AreSetsOf (S.image store.old) sets.old.blocks sets.old.inodes → IfOk result (λ r. IsPlanned (S.image store.old) file batch.now now sets.new r.plan r.replies.items) }
     ensures fits { IfOk result (λ r. CanBePut (S.sector_count store.old) r.plan) }
-    ensures fewer { (a : ℕ) → is_free sets.new.blocks a ≡ true → is_free sets.old.blocks a ≡ true }
+    ensures fewer { HasFewer sets.old sets.new }
     ensures kept { OnErr result (sets.new ≡ sets.old) }
     ensures cause { IsErrOf result PlanFault.Failed → Rose (S.faults store.old) (S.faults store.new) }
     ensures looked { Looked S.Stable store.old store.new }

@@ -1,7 +1,7 @@
 //! Batches on a small volume over a store in memory.
 
 ghost use Rattle.std.specs.Prelude.{◌≡◌, ◌≤◌, true, length};
-ghost use Rattle.plan_file.specs.Free.{AreSpare};
+ghost use Rattle.v7_sets.specs.Sets.{AreSpare};
 
 use crate::batch_plan::{Planned, plan_writes};
 use files_model::{Cred, Data, FileId, Gids, Reply, Stat, WriteItem};

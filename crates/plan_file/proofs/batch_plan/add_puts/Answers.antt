@@ -16,5 +16,5 @@ returns-clause-fits g c =
     c.args.plan.now c.add_cut.new.plan c.add_contents.new.plan c.add_map.new.plan (g.S.Stable.sector_count c.add_cut.new.store) c.in_ok-add_cut.ensures.looked.sectors c.in_ok-add_cut.ensures.fits c.in_ok-add_contents.ensures.fits c.add_map.ensures.fits in
     let place = c.inode_sector_of.ensures in
     let inside = c.requires.ready.inode in
-    fits-put sectors 141 c.args.plan.now c.add.new.self c.requires.empty
+    fits-put sectors 141 c.args.plan.now c.add.new.self (omega arith) c.requires.empty
     (fits-one sectors 140 c.args.plan.now c.add_map.new.plan c.add.new.self c.inode_sector_of.result c.sector_of_inode-sector.result all (omega arith) (omega arith) c.add.ensures)
