@@ -76,16 +76,17 @@ count_from-no bits a lt none = let d = drop_next bits a lt in let e : ◌≡◌ 
 
 -- ---- loops over a batch
 
-pub touched-next : (k : ℕ) (ws : List WriteItem) (rs : List Reply) (i : ℕ) (w : WriteItem) (r : Reply) → i < length ws → i < length rs → w ≡ get_or ws i w → r ≡ get_or rs i r
-    → list_any (touches k) (kept_of (take (i + 1) ws) (take (i + 1) rs)) ≡ (list_any (touches k) (kept_of (take i ws) (take i rs)) || list_any (touches k) (kept_of (w ∷ []) (r ∷ [])))
-touched-next k ws rs i w r lw lr ew er = ap (list_any (touches k)) (kept-next ws rs i w r lw lr ew er) ∙ list_any-append (touches k) (kept_of (take i ws) (take i rs)) (kept_of (w ∷ []) (r ∷ []))
+module _ (p : WriteItem → Bool) where
+  pub any-next : (ws : List WriteItem) (rs : List Reply) (i : ℕ) (w : WriteItem) (r : Reply) → i < length ws → i < length rs → w ≡ get_or ws i w → r ≡ get_or rs i r
+      → list_any p (kept_of (take (i + 1) ws) (take (i + 1) rs)) ≡ (list_any p (kept_of (take i ws) (take i rs)) || list_any p (kept_of (w ∷ []) (r ∷ [])))
+  any-next ws rs i w r lw lr ew er = ap (list_any p) (kept-next ws rs i w r lw lr ew er) ∙ list_any-append p (kept_of (take i ws) (take i rs)) (kept_of (w ∷ []) (r ∷ []))
 
--- one that is touched early is touched
-pub touched-early : (k : ℕ) (ws : List WriteItem) (rs : List Reply) (i : ℕ) → length rs ≡ length ws → i ≤ length ws → list_any (touches k) (kept_of (take i ws) (take i rs)) ≡ true → list_any (touches k) (kept_of ws rs) ≡ true
-touched-early k ws rs i same le e =
-    (ap (list_any (touches k)) ((λ z. kept_of (sym (take-append-drop i ws) z) (sym (take-append-drop i rs) z)) ∙ kept-append (take i ws) (drop i ws) (take i rs) (drop i rs) (length-take i ws ∙ omega arith ∙ sym (length-take i rs)))
-    ∙ list_any-append (touches k) (kept_of (take i ws) (take i rs)) (kept_of (drop i ws) (drop i rs))
-    ∙ ap (λ t. t || list_any (touches k) (kept_of (drop i ws) (drop i rs))) e)
+  -- one that is found early is there
+  pub any-early : (ws : List WriteItem) (rs : List Reply) (i : ℕ) → length rs ≡ length ws → i ≤ length ws → list_any p (kept_of (take i ws) (take i rs)) ≡ true → list_any p (kept_of ws rs) ≡ true
+  any-early ws rs i same le e =
+      (ap (list_any p) ((λ z. kept_of (sym (take-append-drop i ws) z) (sym (take-append-drop i rs) z)) ∙ kept-append (take i ws) (drop i ws) (take i rs) (drop i rs) (length-take i ws ∙ omega arith ∙ sym (length-take i rs)))
+      ∙ list_any-append p (kept_of (take i ws) (take i rs)) (kept_of (drop i ws) (drop i rs))
+      ∙ ap (λ t. t || list_any p (kept_of (drop i ws) (drop i rs))) e)
 
 pub take-all : {X : Type 0} (xs : List X) (i : ℕ) → length xs ≤ i → take i xs ≡ xs
 take-all [] zero le = refl

@@ -20,3 +20,4 @@ pub mod Later
 pub mod Listed
 pub mod Reading
 pub mod Adding
+pub mod Covered

@@ -1,16 +1,16 @@
 // The puts of a batch before that of the inode.
 
-ghost use Rattle.std.specs.Prelude.{◌≡◌, ◌≢◌, ◌<◌, ◌≤◌, ◌+◌, ◌*◌, ◌-◌, ℕ, ◌++◌, get_or, length, List, true, IfOk, OnOk, IfSome, IfNone};
+ghost use Rattle.std.specs.Prelude.{◌≡◌, ◌≢◌, ◌<◌, ◌≤◌, ◌+◌, ◌*◌, ◌-◌, ℕ, ◌++◌, get_or, length, List, true, if◌then◌else◌, IfOk, OnOk, IfSome, IfNone};
 ghost use Rattle.std.specs.List.{range_with_len, list_any};
 ghost use Rattle.stable.specs.Counts.{HasCause};
 ghost use Rattle.stable.specs.Looked.{Looked};
 ghost use Rattle.files_model.specs.Batch.{touches};
 ghost use Rattle.v7_layout.specs.Numbers.{field};
-ghost use Rattle.plan_file.specs.Accepted.{kept_of, spliced_by};
+ghost use Rattle.plan_file.specs.Accepted.{kept_of, spliced_by, covers};
 ghost use Rattle.plan_file.specs.Contents.{old_content, content_puts, cuts, cut_puts, MapPuts, Fits};
 ghost use Rattle.plan_file.specs.Places.{AreWithin};
 
-use crate::accepted::{is_touched, write_over};
+use crate::accepted::{is_covered, is_touched, write_over};
 use crate::places::Places;
 use byteorder::{ByteOrder, LittleEndian};
 use files_model::{Reply, WriteItem};
@@ -34,7 +34,18 @@ fn old_sector<S: Stable>(
     Ok(bytes)
 }
 
-// The same with what the accepted writes of a batch make of it.
+// The address that a sector is read at: none where an accepted write gives all its bytes.
+fn read_at(address: u32, index: u32, batch: &[WriteItem], replies: &[Reply]) -> u32
+    requires { length replies.now ≡ length batch.now }
+    ensures { result ≡ (if list_any (covers index) (kept_of batch.now replies.now) then 0 else address) }
+{
+    if is_covered(batch, replies, index) {
+        return 0;
+    }
+    address
+}
+
+// The same sector with what the accepted writes of a batch make of it. It is read only where they leave some of its bytes.
 fn new_sector<S: Stable>(
     store: &mut S,
     address: u32,
@@ -49,7 +60,8 @@ fn new_sector<S: Stable>(
     ensures cause { HasCause (S.faults store.old) (S.faults store.new) result }
     ensures looked { Looked S.Stable store.old store.new }
 {
-    let mut bytes = old_sector(store, address, size, index)?;
+    let from = read_at(address, index, batch, replies);
+    let mut bytes = old_sector(store, from, size, index)?;
     write_over(batch, replies, index, &mut bytes);
     Ok(bytes)
 }

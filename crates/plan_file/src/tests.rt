@@ -126,3 +126,42 @@ fn one_free_block_is_too_few_for_a_block_of_addresses(rt: HostRuntime) -> Result
     assert!(rt; planned.plan.puts().len() == 2);
     Ok(())
 }
+
+// A write of 8,192 bytes by the owner.
+fn most_bytes(alloc: Global, offset: u32) -> Result<WriteItem, Fail> {
+    let item = one_byte(alloc, offset)?;
+    let bytes = Data::copy(alloc, &[b'Y'; 8192]).map_err(|_| "memory")?;
+    Ok(WriteItem { bytes, ..item })
+}
+
+#[test]
+fn three_writes_are_one_plan_and_the_last_one_wins(rt: HostRuntime) -> Result<(), Fail> {
+    let alloc = rt.alloc();
+    let mut store = volume(alloc)?;
+    let mut sets = Sets::new(alloc, 64, 17).map_err(|_| "memory")?;
+    for block in 10..36 {
+        sets.blocks.give(block);
+    }
+    let batch = [
+        most_bytes(alloc, 0)?,
+        most_bytes(alloc, 4096)?,
+        one_byte(alloc, 0)?,
+    ];
+    let planned = plan(alloc, &mut store, &mut sets, &batch)?;
+    let replies = planned.replies.as_slice();
+    assert!(rt; replies.len() == 3);
+    assert!(rt;
+        matches!(&replies[0], Reply::Attr(attr) if attr.size == 8192 && attr.mtime == 2000)
+    );
+    assert!(rt; matches!(&replies[1], Reply::Attr(attr) if attr.size == 12288));
+    assert!(rt;
+        matches!(&replies[2], Reply::Attr(attr) if attr.size == 12288 && attr.mtime == 2000)
+    );
+    let puts = planned.plan.puts();
+    assert!(rt; puts.len() == 26);
+    assert!(rt; puts[0].0 == 10 && puts[23].0 == 33 && puts[24].0 == 34 && puts[25].0 == 2);
+    let first = puts[0].1;
+    assert!(rt; first[0] == b'X' && first[1] == b'Y');
+    assert!(rt; sets.blocks.count() == 1 && sets.blocks.has(35));
+    Ok(())
+}
