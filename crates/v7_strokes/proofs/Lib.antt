@@ -1,0 +1,32 @@
+pub mod Names
+pub mod Slots
+pub mod Exempt
+pub mod SlotPut
+pub mod SlotStep
+pub mod Views
+pub mod Aside
+pub mod Unnamed
+pub mod AttrPut
+pub mod Changed
+pub mod Two
+pub mod TornCalls
+pub mod Directories
+pub mod Absent
+pub mod GrowStep
+pub mod Ends
+pub mod NewSector
+pub mod Mapped
+pub mod DirMap
+pub mod FreeQuiet
+pub mod Freeing
+pub mod Merging
+pub mod NewFile
+pub mod NewBody
+pub mod Nodewise
+pub mod NewDirectory
+pub mod DirStep
+pub mod Vanish
+pub mod DirTaken
+pub mod GrowDirectory
+mod Overlaid
+mod Replacing
