@@ -28,5 +28,6 @@ pub mod DirStep
 pub mod Vanish
 pub mod DirTaken
 pub mod GrowDirectory
+mod SlotNames
 mod Overlaid
 mod Replacing

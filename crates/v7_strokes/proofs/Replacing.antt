@@ -30,7 +30,7 @@ replaces-slot sector k s result long r = subst (λ b. PutsSlot sector k b (slot_
 })
 
 -- an inode that is read from its sector
-pub inode-stands : (image : Image) (i : ℕ) (sector : List ℕ) → is_inode image i ≡ true → sector ≡ sector_at image (inode_sector i) → inode_of (part sector (inode_offset i) 64) ≡ inode_at image i
+pub inode-stands : (image : Image) (i : ℕ) (sector : List ℕ) (found : Inode) → is_inode image i ≡ true → sector ≡ sector_at image (inode_sector i) → found ≡ inode_of (part sector (inode_offset i) 64) → found ≡ inode_at image i
 unfolding inode_at
-inode-stands image i sector inside at = ap (λ s. inode_of (part s (inode_offset i) 64)) at
+inode-stands image i sector found inside at is = is ∙ ap (λ s. inode_of (part s (inode_offset i) 64)) at
     ∙ sym (ap (λ b. cond b (inode_of (part (sector_at image (inode_sector i)) (inode_offset i) 64)) (inode_of [])) inside)

@@ -53,6 +53,10 @@ unlinked_inode n now = record n { nlink = n.nlink - 1; ctime = now }
 abbrev pub loser_inode : Node → Inode → ℕ → Inode
 loser_inode n old now = if n.nlink == 1 then ended_inode old.generation else unlinked_inode old now
 
+-- an inode with its mtime and ctime now
+abbrev pub timed_inode : Inode → ℕ → Inode
+timed_inode n now = record n { mtime = now; ctime = now }
+
 -- an inode with one link more
 abbrev pub linked_inode : Inode → ℕ → Inode
 linked_inode n now = record n { nlink = n.nlink + 1; ctime = now }
