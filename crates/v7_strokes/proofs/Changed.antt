@@ -20,10 +20,8 @@ use Rattle.v7_map.specs.Tree.{tree}
 use Rattle.v7_map.specs.View.{view}
 use Rattle.v7_map.specs.Weak.{IsStrong, slot_at, HasDots, parent}
 use Rattle.v7_strokes.proofs.TornCalls.{IsAfter, same, torn-after}
-use Rattle.v7_strokes.proofs.Views.{put_option, get-put_same, get-put_other}
-
-abbrev pub changed : Files → ℕ → Option Node → ℕ → Node → Files
-changed files i x p y = record files { nodes = insert (put_option files.nodes i x) p y }
+use Rattle.v7_strokes.proofs.Views.{get-put_same, get-put_other}
+use Rattle.v7_strokes.specs.Changes.{changed, put_option}
 
 module _ (files : Files) (i : ℕ) (x : Option Node) (p : ℕ) (y : Node) where
   pub changed-here : get (changed files i x p y).nodes p ≡ Some y

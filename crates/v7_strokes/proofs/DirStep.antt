@@ -13,34 +13,18 @@ use Rattle.v7_map.specs.View.{view, node_of, node_at, body_at}
 use Rattle.v7_map.specs.Weak.{IsWeak, IsTree, slot_at}
 use Rattle.v7_map.proofs.AnyFrame.{frame-IsFrame}
 use Rattle.v7_map.proofs.Nodes.{view-node}
-use Rattle.v7_strokes.specs.Slots.{NewDirectory, PutsSlot}
+use Rattle.v7_strokes.specs.Slots.{NewDirectory, PutsSlot, PutsDirectory}
 use Rattle.v7_strokes.proofs.Directories.{tree-numbers}
 use Rattle.v7_plans.proofs.Local.{IsStrongFor}
 use Rattle.v7_strokes.proofs.Exempt.{weak_slots}
 use Rattle.v7_strokes.proofs.NewDirectory.{new-links, new-walked_other, new-walked_here, new-no_links, made-IsTree}
-use Rattle.v7_strokes.proofs.Changed.{changed}
-use Rattle.v7_strokes.proofs.Slots.{one, same_count, count-cons}
+use Rattle.v7_strokes.proofs.Slots.{same_count, count-cons}
 use Rattle.v7_strokes.proofs.SlotPut.{slot-frame, slot-slots_other, slot_rest, slot-here, slot-length, slot-first, slot-inodes, slot-bodies}
 use Rattle.v7_strokes.proofs.SlotStep.{walked-dir, walked-number}
 use Rattle.v7_strokes.proofs.Two.{view-two}
-use Rattle.v7_strokes.proofs.Views.{node_if, set_is}
-
--- The put of a sector of a walked directory d whose empty slot k comes to name directory i, which nothing names, and which has `.` and `..` alone.
-pub record PutsDirectory (image : Image) (d k i : ℕ) (name : List ℕ) (bytes : List ℕ) : Type 0 where
-  pub walked : is_walked (tree (frame image)) d ≡ true
-  pub inside : k < ((frame image).head d).size / 16
-  pub puts : PutsSlot (sector_at image ((frame image).address d (Body (k / 32)))) k bytes (Some (i, name))
-  pub past : 2 ≤ k
-  pub empty : slot_at (tree (frame image)) d k ≡ None
-  pub dir : is_directory ((frame image).head i) ≡ true
-  pub apart : i ≢ d
-  pub no_root : i ≢ 2
-  pub unnamed : is_named (tree (frame image)) i ≡ false
-  pub dot : slot_at (tree (frame image)) i 0 ≡ Some (i, 46 ∷ [])
-  pub dots : slot_at (tree (frame image)) i 1 ≡ Some (d, 46 ∷ 46 ∷ [])
-  pub nothing : (l : ℕ) → 2 ≤ l → slot_at (tree (frame image)) i l ≡ None
-  pub good_name : name ≢ []
-  pub bound : links (tree (frame image)) d + 1 ≤ 65535
+use Rattle.v7_strokes.proofs.Views.{set_is}
+use Rattle.v7_strokes.specs.Left.{one}
+use Rattle.v7_strokes.specs.Changes.{changed, node_if}
 
 module _ (old : Image) (d k i : ℕ) (name : List ℕ) (bytes : List ℕ) (weak : IsWeak (frame old)) (x : PutsDirectory old d k i name bytes) where
   a : ℕ

@@ -13,29 +13,18 @@ use Rattle.v7_map.specs.View.{view, node_of, node_at, body_at}
 use Rattle.v7_map.specs.Weak.{IsWeak, IsTree, slot_at}
 use Rattle.v7_map.proofs.AnyFrame.{frame-IsFrame}
 use Rattle.v7_map.proofs.Nodes.{view-node}
-use Rattle.v7_strokes.specs.Slots.{NewDirectory, PutsSlot}
+use Rattle.v7_strokes.specs.Slots.{NewDirectory, PutsSlot, TakesDirectory}
 use Rattle.v7_plans.proofs.Local.{IsStrongFor}
 use Rattle.v7_strokes.proofs.Exempt.{weak_slots}
 use Rattle.v7_strokes.proofs.NewDirectory.{new-links, new-walked_other, taken-IsTree}
-use Rattle.v7_strokes.proofs.Changed.{changed}
-use Rattle.v7_strokes.proofs.Slots.{one, same_count, count-cons}
+use Rattle.v7_strokes.proofs.Slots.{same_count, count-cons}
 use Rattle.v7_strokes.proofs.SlotPut.{slot-frame, slot-slots_other, slot_rest, slot-here, slot-length, slot-first, slot-inodes, slot-bodies}
 use Rattle.v7_strokes.proofs.SlotStep.{walked-dir, walked-number}
 use Rattle.v7_strokes.proofs.Two.{view-two}
 use Rattle.v7_strokes.proofs.Vanish.{vanish-NewDirectory}
-use Rattle.v7_strokes.proofs.Views.{node_if, set_is}
-
--- The put of a sector of a walked directory d whose slot k, which names directory i, is emptied. Directory i is empty.
-pub record TakesDirectory (image : Image) (d k i : ℕ) (name : List ℕ) (bytes : List ℕ) : Type 0 where
-  pub walked : is_walked (tree (frame image)) d ≡ true
-  pub inside : k < ((frame image).head d).size / 16
-  pub puts : PutsSlot (sector_at image ((frame image).address d (Body (k / 32)))) k bytes None
-  pub past : 2 ≤ k
-  pub slot : slot_at (tree (frame image)) d k ≡ Some (i, name)
-  pub dir : is_directory ((frame image).head i) ≡ true
-  pub apart : i ≢ d
-  pub no_root : i ≢ 2
-  pub nothing : (l : ℕ) → 2 ≤ l → slot_at (tree (frame image)) i l ≡ None
+use Rattle.v7_strokes.proofs.Views.{set_is}
+use Rattle.v7_strokes.specs.Left.{one}
+use Rattle.v7_strokes.specs.Changes.{changed, node_if}
 
 own-count : (d i j : ℕ) (xs : List Slot) → get_or xs 0 None ≡ Some (i, 46 ∷ []) → get_or xs 1 None ≡ Some (d, 46 ∷ 46 ∷ []) → ((l : ℕ) → 2 ≤ l → get_or xs l None ≡ None) → count_by (is_slot_of j) xs ≡ one (i == j) + one (d == j)
 own-count d i j [] a b none = absurd (cc)

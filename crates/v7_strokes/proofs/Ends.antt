@@ -19,6 +19,7 @@ use Rattle.v7_strokes.specs.Slots.{IsPlain, PutsSlot, GrowsBy}
 use Rattle.v7_plans.proofs.Local.{IsStrongFor, held-mine}
 use Rattle.v7_strokes.proofs.SlotPut.{past-frame, past-first, past-inodes, past-bodies}
 use Rattle.v7_strokes.proofs.SlotStep.{walked-dir}
+use Rattle.v7_strokes.specs.Inodes.{longer_inode}
 
 -- the put of the slot past the size, in a sector that stands
 pub end-quiet : (image : Image) (d k : ℕ) (bytes : List ℕ) (s : Slot) → IsWeak (frame image) → is_walked (tree (frame image)) d ≡ true
@@ -37,10 +38,6 @@ end-quiet image d k bytes s weak w end below puts =
       same_inodes = past-inodes image d k ((frame image).address d (Body (k / 32))) bytes s weak dir below refl puts (omega arith);
       same_bodies = past-bodies image d k ((frame image).address d (Body (k / 32))) bytes s weak dir below refl puts (omega arith);
     }
-
--- the inode with other times, and longer by one slot
-abbrev pub longer_inode : Inode → ℕ → Inode
-longer_inode n now = record n { size = n.size + 16; mtime = now; ctime = now }
 
 module _ (K : ℕ → Type 0) (image : Image) (d k now : ℕ) (s : Slot) (strong : IsStrongFor K (frame image)) (w : is_walked (tree (frame image)) d ≡ true)
     (end : k ≡ ((frame image).head d).size / 16) (even : ((frame image).head d).size % 16 ≡ 0) (fits : k % 32 ≢ 0) (within : ((frame image).head d).size + 16 ≤ size_limit) where

@@ -19,7 +19,7 @@ use Rattle.v7_map.proofs.Nodes.{view-node}
 use Rattle.v7_strokes.proofs.SlotPut.{past_range}
 use Rattle.v7_strokes.proofs.SlotStep.{walked-dir, walked-number}
 use Rattle.v7_plans.proofs.InodePut.{put-head, put-address, put-slots, put-slots_other, put-elsewhere, put-weak, put-inode, put-inode_other, put-body_other, put-first}
-use Rattle.v7_strokes.proofs.Views.{node_if, same_list}
+use Rattle.v7_strokes.proofs.Views.{same_list}
 use Rattle.v7_strokes.proofs.Two.{view-two}
 use Rattle.std.proofs.Common.{eq-eqb}
 use Rattle.std.proofs.lemmas.Bool.{ne_eqb}
@@ -30,8 +30,9 @@ use Rattle.v7_strokes.proofs.Directories.{tree-numbers}
 use Rattle.v7_strokes.proofs.GrowStep.{no_body}
 use Rattle.v7_plans.proofs.Local.{IsStrongFor, IsStrongBut, Elsewhere, each}
 use Rattle.v7_strokes.proofs.NewDirectory.{new-links, new-walked_other, new-walked_here, new-no_links, made-IsTree}
-use Rattle.v7_strokes.proofs.Changed.{changed}
-use Rattle.v7_strokes.proofs.Slots.{one, same_count, count-cons}
+use Rattle.v7_strokes.proofs.Slots.{same_count, count-cons}
+use Rattle.v7_strokes.specs.Left.{one}
+use Rattle.v7_strokes.specs.Changes.{changed, node_if}
 
 clash : {b : Bool} → b ≡ true → b ≡ false → ⊥
 clash {b = b} x y = cc

@@ -17,14 +17,15 @@ use Rattle.v7_map.specs.Plan.{PutsInode}
 use Rattle.v7_map.proofs.AnyFrame.{frame-IsFrame}
 use Rattle.v7_map.proofs.Nodes.{view-node}
 use Rattle.v7_strokes.specs.Slots.{SlotChange, IsPlain, GrowsBy}
-use Rattle.v7_strokes.proofs.Slots.{plain-alike, change-walked, change-links, change-IsTree, one}
+use Rattle.v7_strokes.proofs.Slots.{plain-alike, change-walked, change-links, change-IsTree}
 use Rattle.v7_strokes.proofs.SlotPut.{past_range}
 use Rattle.v7_strokes.proofs.SlotStep.{walked-dir, walked-number}
 use Rattle.v7_plans.proofs.Local.{IsStrongFor, IsStrongBut, Elsewhere, each}
 use Rattle.v7_plans.proofs.InodePut.{put-head, put-address, put-slots, put-slots_other, put-elsewhere, put-weak, put-inode, put-inode_other, put-body_other, put-first}
-use Rattle.v7_strokes.proofs.Views.{node_if, same_list}
-use Rattle.v7_strokes.proofs.Changed.{changed}
+use Rattle.v7_strokes.proofs.Views.{same_list}
 use Rattle.v7_strokes.proofs.Two.{view-two}
+use Rattle.v7_strokes.specs.Left.{one}
+use Rattle.v7_strokes.specs.Changes.{changed, node_if}
 
 none_is : (j : ℕ) (name : List ℕ) → ◌≡◌ {A = Slot} None (Some (j, name)) → ⊥
 none_is j name e = cc

@@ -19,6 +19,10 @@ pub mod Mapped
 pub mod DirMap
 pub mod FreeQuiet
 pub mod Freeing
+pub mod Ended
+pub mod Times
+pub mod Loser
+pub mod Creation
 pub mod Merging
 pub mod NewFile
 pub mod NewBody

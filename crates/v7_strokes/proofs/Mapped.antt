@@ -15,9 +15,9 @@ use Rattle.v7_plans.specs.Placed.{IsMine, IsPlaced}
 use Rattle.v7_plans.specs.Quiet.{IsMuted}
 use Rattle.v7_strokes.specs.Slots.{IsPlain, GrowsBy}
 use Rattle.v7_strokes.proofs.DirMap.{map-inside, map-weak, map-first, map-tree, map-head, map-address_other, map-inodes, map-bodies}
-use Rattle.v7_strokes.proofs.Ends.{longer_inode}
 use Rattle.v7_plans.proofs.Local.{held-mine}
 use Rattle.v7_strokes.proofs.SlotStep.{walked-dir}
+use Rattle.v7_strokes.specs.Inodes.{longer_inode}
 
 -- the put of the block of addresses
 pub map-muted : (image : Image) (p a : ℕ) (bytes : List ℕ) (weak : IsWeak (frame image)) (dir : is_directory ((frame image).head p) ≡ true)

@@ -19,7 +19,7 @@ use Rattle.v7_plans.specs.Placed.{IsMine, IsPlaced}
 use Rattle.v7_strokes.proofs.GrowStep.{no_body}
 use Rattle.v7_strokes.proofs.Exempt.{free-mine}
 
-zeros_at : (n k : ℕ) → ◌≡◌ {A = ℕ} (get_or (replicate n 0) k 0) 0
+pub zeros_at : (n k : ℕ) → ◌≡◌ {A = ℕ} (get_or (replicate n 0) k 0) 0
 zeros_at zero k = refl
 zeros_at (suc n) zero = refl
 zeros_at (suc n) (suc k) = zeros_at n k

@@ -12,7 +12,8 @@ use Rattle.v7_map.proofs.Walks.{or_cases, or_left, walked_reached, reached_walke
 use Rattle.v7_strokes.specs.Slots.{NewDirectory}
 use Rattle.v7_strokes.proofs.Aside.{same_bool, slot-named, zero_of}
 use Rattle.v7_strokes.proofs.Names.{slot_of_any, names_is, same_number, none_slot}
-use Rattle.v7_strokes.proofs.Slots.{any_pointwise, count_but_one, flat_but_one, one}
+use Rattle.v7_strokes.proofs.Slots.{any_pointwise, count_but_one, flat_but_one}
+use Rattle.v7_strokes.specs.Left.{one}
 
 clash : {b : Bool} → b ≡ true → b ≡ false → ⊥
 clash {b = b} x y = cc

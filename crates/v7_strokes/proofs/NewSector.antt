@@ -18,16 +18,13 @@ use Rattle.v7_strokes.specs.Targets.{IsTarget}
 use Rattle.v7_plans.proofs.Local.{IsStrongFor, held-mine}
 use Rattle.v7_strokes.proofs.Exempt.{free-mine}
 use Rattle.v7_strokes.proofs.SlotStep.{walked-dir}
-
--- the inode with another layout too
-abbrev pub placed_inode : Inode → List ℕ → ℕ → ℕ → Inode
-placed_inode n direct single now = record n { size = n.size + 16; direct = direct; single = single; mtime = now; ctime = now }
+use Rattle.v7_strokes.specs.Inodes.{widened_inode}
 
 module _ (K : ℕ → Type 0) (image : Image) (d k now : ℕ) (s : Slot) (direct : List ℕ) (one : ℕ) (target : Place → ℕ) (strong : IsStrongFor K (frame image)) (w : is_walked (tree (frame image)) d ≡ true)
     (end : k ≡ ((frame image).head d).size / 16) (even : ((frame image).head d).size % 16 ≡ 0) (begins : k % 32 ≡ 0) (within : ((frame image).head d).size + 16 ≤ size_limit)
-    (lay : IsTarget (frame image) d (k / 32) target) (at : (p : Place) → address_of image (head_of (placed_inode (inode_at image d) direct one now)) p ≡ target p) where
+    (lay : IsTarget (frame image) d (k / 32) target) (at : (p : Place) → address_of image (head_of (widened_inode (inode_at image d) direct one now)) p ≡ target p) where
   n : Inode
-  n = placed_inode (inode_at image d) direct one now
+  n = widened_inode (inode_at image d) direct one now
 
   dir : is_directory ((frame image).head d) ≡ true
   dir = walked-dir image d w
@@ -82,7 +79,7 @@ module _ (K : ℕ → Type 0) (image : Image) (d k now : ℕ) (s : Slot) (direct
 
   pub sector-grows : slot_of (part (sector_at image (target (Body (k / 32)))) (16 * (k % 32)) 16) ≡ s → IsPlain (tree (frame image)) s
       → ((j : ℕ) (name : List ℕ) → s ≡ Some (j, name) → (((frame image).head j).is_used ≡ true) × (name ≢ []))
-      → ((j : ℕ) → is_slot_of j s ≡ true → links (tree (frame image)) j + 1 ≤ 65535) → GrowsBy image d k (placed_inode (inode_at image d) direct one now) s
+      → ((j : ℕ) → is_slot_of j s ≡ true → links (tree (frame image)) j + 1 ≤ 65535) → GrowsBy image d k (widened_inode (inode_at image d) direct one now) s
   unfolding n frame
   sector-grows content plain used bound = record {
     walked = w;

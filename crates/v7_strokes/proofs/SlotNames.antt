@@ -5,6 +5,7 @@ use Rattle.std.proofs.lemmas.List.{get_or-drop, get_or-replicate, get_or_past, l
 use Rattle.std.proofs.lemmas.List.Sums.{take_while-cons}
 use Rattle.std.specs.List.{take_while}
 use Rattle.v7_strokes.specs.Over.{slot_from}
+use Rattle.v7_strokes.proofs.NewBody.{zeros_at}
 
 -- a name without zero bytes, in front of a zero byte or of nothing, is what stands up to the first zero
 name_before : (name rest : List ℕ) → All (λ b. b ≢ 0) name → get_or rest 0 0 ≡ 0 → take_while (λ b. not (b == 0)) (name ++ rest) ≡ name
@@ -19,7 +20,4 @@ name_before (x ∷ xs) rest whole ends =
 pub slot_from-named : (ino n : ℕ) (name : List ℕ) → ino ≢ 0 → All (λ b. b ≢ 0) name → slot_from record { ino = ino; name = name ++ drop (length name) (replicate n 0) } ≡ Some (ino, name)
 slot_from-named ino n name some whole =
     ap (λ b. cond b None (Some (ino, take_while (λ b. not (b == 0)) (name ++ drop (length name) (replicate n 0))))) (ne_eqb ino 0 some)
-    ∙ ap (λ l. Some (ino, l)) (name_before name (drop (length name) (replicate n 0)) whole (get_or-drop (length name) (replicate n 0) 0 0 ∙ zero_at (length name + 0)))
-  where
-    zero_at : (k : ℕ) → ◌≡◌ {A = ℕ} (get_or (replicate n 0) k 0) 0
-    zero_at k = ⊎_elim (λ (lt : k < n). get_or-replicate n k 0 0 lt) (λ (ge : n ≤ k). get_or_past (replicate n 0) k 0 (let long : length (replicate {A = ℕ} n 0) ≡ n = length-replicate n 0 in omega arith)) (cases_lt k n)
+    ∙ ap (λ l. Some (ino, l)) (name_before name (drop (length name) (replicate n 0)) whole (get_or-drop (length name) (replicate n 0) 0 0 ∙ zeros_at n (length name + 0)))

@@ -12,10 +12,11 @@ use Rattle.v7_map.proofs.Ranges.{address-inside}
 use Rattle.v7_map.proofs.Used.{walked_is_dir}
 use Rattle.v7_map.proofs.Walks.{walked_reached}
 use Rattle.v7_strokes.specs.Slots.{SlotChange, PutsEntry}
-use Rattle.v7_strokes.proofs.Slots.{change-walked, change-links, change-IsTree, one}
+use Rattle.v7_strokes.proofs.Slots.{change-walked, change-links, change-IsTree}
 use Rattle.v7_strokes.proofs.SlotPut.{slot-frame, slot-change, slot-here}
 use Rattle.v7_plans.proofs.Local.{IsStrongFor}
 use Rattle.v7_strokes.proofs.Exempt.{weak_slots, strong_for_slots}
+use Rattle.v7_strokes.specs.Left.{one}
 
 pub walked-dir : (image : Image) (d : ℕ) → is_walked (tree (frame image)) d ≡ true → is_directory ((frame image).head d) ≡ true
 walked-dir image d w = walked_is_dir {t = tree (frame image)} (walked_reached (tree (frame image)) d w)

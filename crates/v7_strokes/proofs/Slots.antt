@@ -11,6 +11,7 @@ use Rattle.v7_strokes.proofs.Names.{names_is}
 use Rattle.v7_strokes.specs.Slots.{SlotChange, IsPlain}
 use Rattle.v7_map.proofs.Walks.{walked_reached}
 use Rattle.v7_map.proofs.Used.{walked_is_dir}
+use Rattle.v7_strokes.specs.Left.{one}
 
 -- ---- lists of slots, slot by slot
 
@@ -25,9 +26,6 @@ any_pointwise p [] ys n none h = none_any p ys n (λ l. h l ∙ none) ∙ sym (n
 any_pointwise p (x ∷ xs) [] n none h = none_any p [] n (λ l. none) ∙ sym (none_any p (x ∷ xs) n (λ l. sym (h l) ∙ none))
 any_pointwise p (x ∷ xs) (y ∷ ys) zero none h = (λ z. h 0 z || any_pointwise p xs ys 0 none (λ l. h (suc l)) z)
 any_pointwise p (x ∷ xs) (y ∷ ys) (suc n) none h = any_pointwise p xs ys n none (λ l. h (suc l))
-
-abbrev pub one : Bool → ℕ
-one b = cond b 1 0
 
 pub count-cons : (p : Slot → Bool) (x : Slot) (xs : List Slot) → count_by p (x ∷ xs) ≡ (0 + one (p x)) + count_by p xs
 count-cons p x xs = sum_by-append (λ y. cond (p y) 1 0) (x ∷ []) xs

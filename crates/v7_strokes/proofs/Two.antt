@@ -10,8 +10,9 @@ use Rattle.v7_map.specs.Image.{sector_at, inode_at, inodes_before, is_read_only}
 use Rattle.v7_map.specs.Frame.{frame}
 use Rattle.v7_map.specs.Tree.{tree}
 use Rattle.v7_map.specs.View.{view, files_of}
-use Rattle.v7_strokes.proofs.Changed.{changed, changed-here, changed-there, changed-other}
-use Rattle.v7_strokes.proofs.Views.{node_if, view-get, view-get_above}
+use Rattle.v7_strokes.proofs.Changed.{changed-here, changed-there, changed-other}
+use Rattle.v7_strokes.proofs.Views.{view-get, view-get_above}
+use Rattle.v7_strokes.specs.Changes.{changed, node_if}
 
 module _ (old new : Image) (i p : ℕ) (y : Node) (first : sector_at new 1 ≡ sector_at old 1) (generations : (j : ℕ) → (inode_at new j).generation ≡ (inode_at old j).generation)
     (others : (j : ℕ) → j ≢ i → j ≢ p → node_if new j ≡ node_if old j) (here : node_if new p ≡ Some y) (within : i < (tree (frame old)).inodes + 1) (within' : p < (tree (frame old)).inodes + 1) where

@@ -19,7 +19,7 @@ use Rattle.v7_plans.specs.Placed.{IsPlaced}
 use Rattle.v7_plans.proofs.Local.{Elsewhere, IsStrongFor, each}
 use Rattle.v7_plans.proofs.InodePut.{put-head, put-address, put-slots_other, put-elsewhere, put-weak, put-inode, put-inode_other, put-body_other, put-first}
 use Rattle.v7_strokes.proofs.Aside.{Aside, aside-walked, aside-links, aside-named, aside-IsTree}
-use Rattle.v7_strokes.proofs.Views.{node_if}
+use Rattle.v7_strokes.specs.Changes.{node_if, with_generation}
 
 -- an inode without blocks, that is no directory
 pub placed-none : (old : Image) (i : ℕ) (h : Head) → (h.is_used ≡ true → IsGood h) → is_directory h ≡ false → ((p : Place) → address_of old h p ≡ 0) → IsPlaced old i h
@@ -35,9 +35,6 @@ placed-none old i h good file none = record {
   where
     clash : {b : Bool} → b ≡ true → b ≡ false → ⊥
     clash {b = b} x y = cc
-
-abbrev pub with_generation : Files → ℕ → ℕ → Files
-with_generation files i g = record files { generations = insert files.generations i g }
 
 module _ (old : Image) (i : ℕ) (bytes : List ℕ) (n : Inode) (weak : IsWeak (frame old)) (puts : PutsInode old i bytes n) (placed : IsPlaced old i (head_of n))
     (low : 3 ≤ i) (unnamed : is_named (tree (frame old)) i ≡ false) where

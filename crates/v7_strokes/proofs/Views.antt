@@ -16,10 +16,7 @@ use Rattle.v7_map.proofs.Nodes.{view-node}
 use Rattle.v7_strokes.specs.Slots.{SlotChange, PutsEntry}
 use Rattle.v7_strokes.proofs.SlotPut.{slot-frame, slot-view, slot-length}
 use Rattle.v7_strokes.proofs.SlotStep.{entry-below, step-change, step-slot, step-links_other, step-is_walked, walked-dir, walked-number}
-
--- the node of inode i, if a name leads to it
-abbrev pub node_if : Image → ℕ → Option Node
-node_if image j = cond (is_named (tree (frame image)) j) (Some (node_at image j)) None
+use Rattle.v7_strokes.specs.Changes.{node_if, put_option}
 
 pub view-get : (image : Image) (j : ℕ) → j < (tree (frame image)).inodes + 1 → get (view image).nodes j ≡ node_if image j
 unfolding view files_of
@@ -41,11 +38,6 @@ view-generation image i nz lt = get-tabulated (λ j. if j == 0 then None else So
 -- the view says how many inodes there are
 pub same-within : (old new : Image) (i : ℕ) → (view new).inodes ≡ (view old).inodes → i < (tree (frame old)).inodes + 1 → i < (tree (frame new)).inodes + 1
 same-within old new i same lt = let e : (tree (frame new)).inodes ≡ (tree (frame old)).inodes = sym (view-inodes new) ∙ same ∙ view-inodes old in subst (λ n. i < n + 1) (sym e) lt
-
--- a map with a key set or left out
-abbrev pub put_option : {X : Type 0} → FinMap nat_cmp X → ℕ → Option X → FinMap nat_cmp X
-put_option m k None = remove m k
-put_option m k (Some x) = insert m k x
 
 module _ {X : Type 0} where
   pub get-put_same : (m : FinMap nat_cmp X) (k : ℕ) (o : Option X) → get (put_option m k o) k ≡ o

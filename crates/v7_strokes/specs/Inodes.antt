@@ -1,5 +1,5 @@
 -- Inodes that are made, ended, linked and unlinked.
-use Rattle.std.specs.Prelude.{ℕ, ◌+◌, ◌-◌, ◌*◌, ◌==◌, ◌∷◌, replicate, if◌then◌else◌}
+use Rattle.std.specs.Prelude.{ℕ, ◌+◌, ◌-◌, ◌*◌, ◌==◌, List, ◌∷◌, replicate, if◌then◌else◌}
 use Rattle.v7_layout.specs.declared.inode.Inode.{Inode}
 use Rattle.files_model.specs.declared.attributes.Kind.{Kind}
 use Rattle.files_model.specs.declared.attributes.Kind.TheVariants.{Regular, Directory, Link}
@@ -56,6 +56,14 @@ loser_inode n old now = if n.nlink == 1 then ended_inode old.generation else unl
 -- an inode with its mtime and ctime now
 abbrev pub timed_inode : Inode → ℕ → Inode
 timed_inode n now = record n { mtime = now; ctime = now }
+
+-- an inode with times now, and longer by one slot
+abbrev pub longer_inode : Inode → ℕ → Inode
+longer_inode n now = record n { size = n.size + 16; mtime = now; ctime = now }
+
+-- the same, with other blocks
+abbrev pub widened_inode : Inode → List ℕ → ℕ → ℕ → Inode
+widened_inode n direct single now = record n { size = n.size + 16; direct = direct; single = single; mtime = now; ctime = now }
 
 -- an inode with one link more
 abbrev pub linked_inode : Inode → ℕ → Inode

@@ -6,3 +6,5 @@ pub mod Targets
 pub mod Merged
 pub mod Freed
 pub mod Over
+pub mod Changes
+pub mod Left

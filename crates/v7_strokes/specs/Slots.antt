@@ -95,3 +95,32 @@ pub record GrowsDirectory (image : Image) (d k i : ℕ) (name : List ℕ) (n : I
   pub nothing : (l : ℕ) → 2 ≤ l → slot_at (tree (frame image)) i l ≡ None
   pub good_name : name ≢ []
   pub bound : links (tree (frame image)) d + 1 ≤ 65535
+
+-- The put of the sector of a walked directory d whose empty slot k comes to name directory i, which nothing names, and which has `.` and `..` alone.
+pub record PutsDirectory (image : Image) (d k i : ℕ) (name : List ℕ) (bytes : List ℕ) : Type 0 where
+  pub walked : is_walked (tree (frame image)) d ≡ true
+  pub inside : k < ((frame image).head d).size / 16
+  pub puts : PutsSlot (sector_at image ((frame image).address d (Body (k / 32)))) k bytes (Some (i, name))
+  pub past : 2 ≤ k
+  pub empty : slot_at (tree (frame image)) d k ≡ None
+  pub dir : is_directory ((frame image).head i) ≡ true
+  pub apart : i ≢ d
+  pub no_root : i ≢ 2
+  pub unnamed : is_named (tree (frame image)) i ≡ false
+  pub dot : slot_at (tree (frame image)) i 0 ≡ Some (i, 46 ∷ [])
+  pub dots : slot_at (tree (frame image)) i 1 ≡ Some (d, 46 ∷ 46 ∷ [])
+  pub nothing : (l : ℕ) → 2 ≤ l → slot_at (tree (frame image)) i l ≡ None
+  pub good_name : name ≢ []
+  pub bound : links (tree (frame image)) d + 1 ≤ 65535
+
+-- The put of the sector of a walked directory d whose slot k, which names directory i, is emptied. Directory i is empty.
+pub record TakesDirectory (image : Image) (d k i : ℕ) (name : List ℕ) (bytes : List ℕ) : Type 0 where
+  pub walked : is_walked (tree (frame image)) d ≡ true
+  pub inside : k < ((frame image).head d).size / 16
+  pub puts : PutsSlot (sector_at image ((frame image).address d (Body (k / 32)))) k bytes None
+  pub past : 2 ≤ k
+  pub slot : slot_at (tree (frame image)) d k ≡ Some (i, name)
+  pub dir : is_directory ((frame image).head i) ≡ true
+  pub apart : i ≢ d
+  pub no_root : i ≢ 2
+  pub nothing : (l : ℕ) → 2 ≤ l → slot_at (tree (frame image)) i l ≡ None

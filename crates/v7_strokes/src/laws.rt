@@ -1,8 +1,97 @@
 // What strokes leave of an image.
 
-ghost use Rattle.std.specs.Prelude.{◌≡◌, ℕ};
+ghost use Rattle.std.specs.Prelude.{◌≡◌, ◌≢◌, ◌<◌, ◌≤◌, ℕ, List, [], ◌∷◌, length, set, true, false, Some};
+ghost use Rattle.std.specs.FinMap.{empty, get};
+ghost use Rattle.files_model.specs.Files.{Node, Slot};
+ghost use Rattle.files_model.specs.Space.{size_limit};
+ghost use Rattle.files_model.specs.Step.{with_node};
+ghost use Rattle.files_model.specs.Torn.{Asked};
+ghost use Rattle.files_model.specs.declared.attributes.Kind.TheVariants.{Directory, Regular};
+ghost use Rattle.stable.specs.Store.{Image};
+ghost use Rattle.v7_layout.specs.Numbers.{part};
+ghost use Rattle.v7_layout.specs.declared.inode.Inode.{Inode};
+ghost use Rattle.v7_map.specs.Frame.{Body, head_of, slot_of, frame};
+ghost use Rattle.v7_map.specs.Image.{sector_at, inode_at, inode_sector};
+ghost use Rattle.v7_map.specs.Plan.{PutsInode};
+ghost use Rattle.v7_map.specs.Plans.{IsPlanOf};
+ghost use Rattle.v7_map.specs.Tree.{tree, is_named};
+ghost use Rattle.v7_map.specs.View.{view};
+ghost use Rattle.v7_map.specs.Weak.{IsWeak};
+ghost use Rattle.v7_plans.specs.Placed.{IsPlaced};
+ghost use Rattle.v7_plans.specs.Quiet.{IsQuiet};
+ghost use Rattle.v7_sets.specs.Sets.{IsFreeBlock};
+ghost use Rattle.v7_strokes.specs.Entries.{entry_sector};
+ghost use Rattle.v7_strokes.specs.Freed.{FreesBlocks};
+ghost use Rattle.v7_strokes.specs.Inodes.{ended_inode, made_inode, placed_inode, timed_inode};
+ghost use Rattle.v7_strokes.specs.Left.{ChangesSlot, ChangesUnnamed, ChangesAttributes, GrewByASlot, NamedADirectory, TookADirectory};
+ghost use Rattle.v7_strokes.specs.Merged.{merged};
+ghost use Rattle.v7_strokes.specs.NewNodes.{IsNewFile, IsNewDirectory};
+ghost use Rattle.v7_strokes.specs.Slots.{PutsEntry, GrowsBy, PutsDirectory, TakesDirectory};
 
-/// Nothing yet.
+/// A put of one slot of a directory, which names no directory before or after, or the same one: the directory's slots are new, and what
+/// the slot named or names has a link less or more. It can be mended, and no block moves.
+pub fn a_slot_is_put()
+    ensures { (image : Image) (d k a : ℕ) (bytes : List ℕ) (s : Slot) → IsWeak (frame image) → PutsEntry image d k a bytes s → ChangesSlot image (set image a bytes) d k s }
+{}
+
+/// A put of an inode that no name leads to, made or ended, with whatever blocks: the files have its new generation alone.
+pub fn an_unnamed_inode_is_put()
+    ensures { (image : Image) (i : ℕ) (bytes : List ℕ) (n : Inode) → IsWeak (frame image) → PutsInode image i bytes n → IsPlaced image i (head_of n) → 3 ≤ i
+        → is_named (tree (frame image)) i ≡ false → ChangesUnnamed image (set image (inode_sector i) bytes) i n }
+{}
+
+/// A put of a used inode that changes links, owner, permissions or times: where things are stays, and the files have that node alone changed.
+pub fn attributes_are_put()
+    ensures changed { (image : Image) (i : ℕ) (bytes : List ℕ) (n : Inode) → IsWeak (frame image) → PutsInode image i bytes n → ((frame image).head i).is_used ≡ true
+        → head_of n ≡ record ((frame image).head i) { nlink = n.nlink } → n.generation ≡ (inode_at image i).generation → ChangesAttributes image (set image (inode_sector i) bytes) i n }
+    ensures times { (image : Image) (i now : ℕ) (bytes : List ℕ) (n : Node) → IsWeak (frame image) → get (view image).nodes i ≡ Some n → PutsInode image i bytes (timed_inode (inode_at image i) now)
+        → view (set image (inode_sector i) bytes) ≡ with_node (view image) i (record n { mtime = now; ctime = now }) }
+{}
+
+/// A put of a directory's inode that makes it longer by one slot, which was put before and names no directory.
+pub fn a_directory_gets_longer()
+    ensures { (image : Image) (d k : ℕ) (n : Inode) (bytes : List ℕ) (s : Slot) → IsWeak (frame image) → PutsInode image d bytes n → GrowsBy image d k n s
+        → GrewByASlot image (set image (inode_sector d) bytes) d n s }
+{}
+
+/// A put of an empty slot of a directory that names a directory made before: it appears, and the one it stands in has a link more.
+pub fn a_directory_is_named()
+    ensures { (image : Image) (d k i : ℕ) (name : List ℕ) (bytes : List ℕ) → IsWeak (frame image) → PutsDirectory image d k i name bytes
+        → NamedADirectory image (set image (entry_sector image d k) bytes) d k i name }
+{}
+
+/// A put of a slot that names an empty directory, and is empty then: that directory is gone from the files, and the one it stood in has a link less.
+pub fn a_directory_is_taken_away()
+    ensures { (image : Image) (d k i : ℕ) (name : List ℕ) (bytes : List ℕ) → IsWeak (frame image) → TakesDirectory image d k i name bytes
+        → TookADirectory image (set image (entry_sector image d k) bytes) d k i }
+{}
+
+/// A put of a free block shows nowhere.
+pub fn a_free_block_takes_a_put()
+    ensures { (image : Image) (a : ℕ) (bytes : List ℕ) → IsWeak (frame image) → IsFreeBlock (frame image) a → length bytes ≡ 512 → IsQuiet image (a, bytes) }
+{}
+
+/// The blocks of an inode that no name leads to are free once it ends, and no others.
+pub fn an_ended_inode_frees_its_blocks()
+    ensures { (image : Image) (i generation : ℕ) (bytes : List ℕ) → IsWeak (frame image) → PutsInode image i bytes (ended_inode generation) → 3 ≤ i
+        → is_named (tree (frame image)) i ≡ false → FreesBlocks i (frame image) (frame (set image (inode_sector i) bytes)) }
+{}
+
+/// The inode of a file without sectors is that of a new one.
+pub fn a_made_inode_is_a_new_file()
+    ensures { (image : Image) (i generation : ℕ) (m : Node) → m.kind ≡ Regular → m.mode < 4096 → m.nlink ≡ 1 → m.size ≤ size_limit → m.sectors ≡ empty → m.slots ≡ []
+        → IsNewFile image i (made_inode m generation) m }
+{}
+
+/// A directory whose first sector, with `.` and `..` alone, was put into a free block may have its inode there.
+pub fn a_new_directory_stands_in_a_free_block()
+    ensures { (image : Image) (i p a generation : ℕ) (m : Node) → IsWeak (frame image) → IsFreeBlock (frame image) a → m.kind ≡ Directory → m.mode < 4096 → m.nlink ≡ 2 → m.size ≡ 32 → m.sectors ≡ empty
+        → m.slots ≡ Some (i, 46 ∷ []) ∷ Some (p, 46 ∷ 46 ∷ []) ∷ []
+        → slot_of (part (sector_at image a) 0 16) ≡ Some (i, 46 ∷ []) → slot_of (part (sector_at image a) 16 16) ≡ Some (p, 46 ∷ 46 ∷ [])
+        → IsNewDirectory image p i (placed_inode m generation a) m }
+{}
+
+/// Puts of one sector that follow each other are one put: a plan stays a plan of the same calls.
 pub fn merged_puts_are_a_plan()
-    ensures { (n : ℕ) → n ≡ n }
+    ensures { (image : Image) (calls : List Asked) (now : ℕ) (puts : List (ℕ × List ℕ)) → IsPlanOf image calls now puts → IsPlanOf image calls now (merged puts) }
 {}

@@ -7,7 +7,12 @@ mod over;
 mod records;
 
 pub use added::{add_inode, add_slot, add_times, add_unlinked, planned_inode};
-pub use laws::merged_puts_are_a_plan;
+pub use laws::{
+    a_directory_gets_longer, a_directory_is_named, a_directory_is_taken_away,
+    a_free_block_takes_a_put, a_made_inode_is_a_new_file, a_new_directory_stands_in_a_free_block,
+    a_slot_is_put, an_ended_inode_frees_its_blocks, an_unnamed_inode_is_put, attributes_are_put,
+    merged_puts_are_a_plan,
+};
 pub use over::planned_sector;
 pub use records::{ended_inode, empty_slot, slot_of, unlinked_inode, with_inode, with_slot};
 
