@@ -1,16 +1,13 @@
 -- An i-number that no node has.
-use Rattle.std.proofs.Common.{◌≡◌, ◌≢◌, ℕ, ◌+◌, ◌/◌, ◌<◌, ◌≤◌, Bool, true, false, cond, ◌||◌, List, [], length, get_or, set, refl, sym, ap, subst, ◌∙◌, arith, ⊎_elim, eq-eqb, ltb, Some, None}
-use Rattle.std.proofs.lemmas.Bool.{cases_eq, cases_Bool, ne_eqb}
-use Rattle.std.specs.FinMap.{get, insert}
-use Rattle.v7_layout.specs.declared.inode.Inode.{Inode}
-use Rattle.files_model.specs.Files.{Node, Files, Slot}
+use Rattle.std.proofs.Common.{◌≡◌, ℕ, ◌+◌, ◌<◌, Bool, true, false, cond, ◌||◌, refl, sym, ◌∙◌, ⊎_elim, ltb, Some, None}
+use Rattle.std.proofs.lemmas.Bool.{cases_Bool}
+use Rattle.std.specs.FinMap.{get}
+use Rattle.files_model.specs.Files.{Node}
 use Rattle.stable.specs.Store.{Image}
-use Rattle.v7_map.specs.Image.{sector_at, inode_at, inode_sector}
-use Rattle.v7_map.specs.Frame.{Head, Body, head_of, is_directory, address_of, frame}
-use Rattle.v7_map.specs.Tree.{tree, is_walked, is_named, links, is_slot_of, number_in}
-use Rattle.v7_map.specs.View.{view, node_of, node_at, body_of, body_at}
-use Rattle.v7_map.specs.Weak.{IsWeak, IsStrong, slot_at}
-use Rattle.v7_map.proofs.Frames.{no_slots}
+use Rattle.v7_map.specs.Frame.{frame}
+use Rattle.v7_map.specs.Tree.{tree, is_walked, is_named, links}
+use Rattle.v7_map.specs.View.{view, node_at}
+use Rattle.v7_map.specs.Weak.{IsStrong}
 use Rattle.v7_strokes.proofs.Aside.{zero_of}
 use Rattle.v7_strokes.proofs.Views.{view-get}
 

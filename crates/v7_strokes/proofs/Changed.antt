@@ -1,24 +1,11 @@
 -- Files of which two nodes are changed, of which the first may be gone.
-use Rattle.std.proofs.Common.{◌≡◌, ◌≢◌, ◌⊎◌, ℕ, ◌-◌, ◌<◌, ◌≤◌, true, false, not, ◌||◌, ◌==◌, if◌then◌else◌, List, [], ◌∷◌, length, get_or, refl, sym, ap, subst, ◌∙◌, arith, inl, inr, ⊎_elim, eqb, ltb, Option, Some, None}
+use Rattle.std.proofs.Common.{◌≡◌, ◌≢◌, ℕ, false, [], ◌∷◌, sym, ap, subst, ◌∙◌, ⊎_elim, Option, Some}
 use Rattle.std.proofs.lemmas.Bool.{cases_eq}
-use Rattle.std.proofs.lemmas.List.Quantifiers.{position-Some}
-use Rattle.std.proofs.lemmas.Slice.Eq.{bytes_eq-Decides}
-use Rattle.std.specs.FinMap.{get, insert, remove}
-use Rattle.std.specs.Str.{bytes_eq}
-use Rattle.files_model.specs.declared.attributes.FileId.{FileId}
-use Rattle.files_model.specs.declared.credential.Cred.{Cred}
-use Rattle.files_model.specs.declared.call.Call.TheVariants as call
-use Rattle.files_model.specs.declared.reply.Stat.TheVariants as stat
-use Rattle.files_model.specs.Files.{Node, Files, Slot}
-use Rattle.files_model.specs.Permission as permission
+use Rattle.std.specs.FinMap.{get, insert}
+use Rattle.files_model.specs.Files.{Node, Files}
 use Rattle.files_model.specs.Step.{with_node}
 use Rattle.files_model.specs.Torn.{Asked, Torn, after_calls, is_write}
 use Rattle.files_model.proofs.Maps.{same_maps, get-insert_same, get-insert_other}
-use Rattle.stable.specs.Store.{Image}
-use Rattle.v7_map.specs.Frame.{frame}
-use Rattle.v7_map.specs.Tree.{tree}
-use Rattle.v7_map.specs.View.{view}
-use Rattle.v7_map.specs.Weak.{IsStrong, slot_at, HasDots, parent}
 use Rattle.v7_strokes.proofs.TornCalls.{IsAfter, same, torn-after}
 use Rattle.v7_strokes.proofs.Views.{get-put_same, get-put_other}
 use Rattle.v7_strokes.specs.Changes.{changed, put_option}

@@ -1,13 +1,13 @@
 -- A new file whose entry takes an empty slot: the new inode, and the slot.
-use Rattle.std.proofs.Common.{◌≡◌, ◌≢◌, ℕ, ◌+◌, ◌/◌, ◌<◌, ◌≤◌, Bool, true, false, cond, ◌||◌, List, [], length, get_or, set, refl, sym, ap, subst, ◌∙◌, arith, ⊎_elim, eq-eqb, ltb, Some, None}
-use Rattle.std.proofs.lemmas.Bool.{cases_eq, cases_Bool, ne_eqb}
+use Rattle.std.proofs.Common.{◌≡◌, ◌≢◌, ℕ, ◌+◌, ◌/◌, ◌<◌, ◌≤◌, Bool, true, false, cond, List, [], length, get_or, set, refl, sym, ap, subst, ◌∙◌, arith, ⊎_elim, eq-eqb, ltb, Some, None}
+use Rattle.std.proofs.lemmas.Bool.{cases_eq, ne_eqb}
 use Rattle.std.specs.FinMap.{get, insert}
 use Rattle.v7_layout.specs.declared.inode.Inode.{Inode}
 use Rattle.files_model.specs.Files.{Node, Files, Slot}
 use Rattle.stable.specs.Store.{Image}
 use Rattle.v7_map.specs.Image.{sector_at, inode_at, inode_sector}
 use Rattle.v7_map.specs.Frame.{Head, Body, head_of, is_directory, address_of, frame}
-use Rattle.v7_map.specs.Tree.{tree, is_walked, is_named, links, is_slot_of, number_in}
+use Rattle.v7_map.specs.Tree.{tree, is_walked, is_named, links, is_slot_of}
 use Rattle.v7_map.specs.View.{view, node_of, node_at, body_of, body_at}
 use Rattle.v7_map.specs.Weak.{IsWeak, IsStrong, slot_at}
 use Rattle.v7_map.specs.Plan.{PutsInode}
@@ -15,14 +15,13 @@ use Rattle.v7_map.proofs.Frames.{no_slots}
 use Rattle.v7_map.proofs.Walks.{or_right}
 use Rattle.v7_strokes.specs.NewNodes.{IsNewFile}
 use Rattle.v7_strokes.specs.Slots.{PutsSlot, PutsEntry}
-use Rattle.v7_strokes.proofs.Aside.{zero_of}
 use Rattle.v7_strokes.proofs.Directories.{StandsDir}
 use Rattle.v7_plans.proofs.InodePut.{put-body, put-slots}
 use Rattle.v7_plans.proofs.Local.{IsStrongFor, strong_for, strong_of}
 use Rattle.v7_strokes.proofs.Slots.{plain-alike}
 use Rattle.v7_strokes.proofs.SlotStep.{step-strong, step-links, step-heads}
 use Rattle.v7_strokes.proofs.Unnamed.{unnamed-weak, unnamed-strong, unnamed-view, unnamed-head, unnamed-heads, unnamed-walked, unnamed-links, unnamed-slots, unnamed-inode}
-use Rattle.v7_strokes.proofs.Views.{view-get, view-slot, same-within}
+use Rattle.v7_strokes.proofs.Views.{view-slot, same-within}
 use Rattle.v7_strokes.proofs.Names.{some_slot, none_slot}
 use Rattle.v7_strokes.proofs.Absent.{absent-unnamed, absent-links}
 use Rattle.v7_strokes.specs.Left.{one}

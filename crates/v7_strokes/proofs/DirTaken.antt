@@ -6,14 +6,14 @@ use Rattle.std.specs.List.{range_with_len, list_any, count_by}
 use Rattle.v7_layout.specs.declared.inode.Inode.{Inode}
 use Rattle.files_model.specs.Files.{Slot, Node, sectors_of}
 use Rattle.stable.specs.Store.{Image}
-use Rattle.v7_map.specs.Image.{sector_at, inode_at}
+use Rattle.v7_map.specs.Image.{inode_at}
 use Rattle.v7_map.specs.Frame.{Frame, Place, Head, Body, Single, is_directory, frame}
 use Rattle.v7_map.specs.Tree.{tree, is_walked, is_named, links, is_slot_of}
 use Rattle.v7_map.specs.View.{view, node_of, node_at, body_at}
-use Rattle.v7_map.specs.Weak.{IsWeak, IsTree, slot_at}
+use Rattle.v7_map.specs.Weak.{IsWeak, IsTree}
 use Rattle.v7_map.proofs.AnyFrame.{frame-IsFrame}
 use Rattle.v7_map.proofs.Nodes.{view-node}
-use Rattle.v7_strokes.specs.Slots.{NewDirectory, PutsSlot, TakesDirectory}
+use Rattle.v7_strokes.specs.Slots.{NewDirectory, TakesDirectory}
 use Rattle.v7_plans.proofs.Local.{IsStrongFor}
 use Rattle.v7_strokes.proofs.Exempt.{weak_slots}
 use Rattle.v7_strokes.proofs.NewDirectory.{new-links, new-walked_other, taken-IsTree}

@@ -12,7 +12,7 @@ use Rattle.files_model.specs.Permission as permission
 use Rattle.stable.specs.Store.{Image}
 use Rattle.v7_map.specs.Image.{inode_at}
 use Rattle.v7_map.specs.Frame.{is_directory, slots_of, slot_in, head_of, frame}
-use Rattle.v7_map.specs.Tree.{tree, named, is_walked, is_named, links, seen_in, seen_slots, is_slot_of}
+use Rattle.v7_map.specs.Tree.{tree, named, is_walked, is_named, links}
 use Rattle.v7_map.specs.View.{view, kind_of}
 use Rattle.v7_map.specs.Weak.{IsWeak, HasDots, slot_at, parent}
 use Rattle.v7_map.proofs.AnyFrame.{frame-IsFrame}

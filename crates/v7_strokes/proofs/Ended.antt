@@ -1,5 +1,5 @@
 -- An inode that ended has no blocks, and those it had are free.
-use Rattle.std.proofs.Common.{◌≡◌, ◌≢◌, ℕ, ◌≤◌, true, false, cond, List, set, refl, ap, ◌∙◌}
+use Rattle.std.proofs.Common.{◌≡◌, ℕ, ◌≤◌, false, cond, List, set, refl, ap, ◌∙◌}
 use Rattle.stable.specs.Store.{Image}
 use Rattle.v7_map.specs.Image.{inode_sector}
 use Rattle.v7_map.specs.Frame.{Head, Place, head_of, address_of, place_of, frame}
@@ -8,7 +8,7 @@ use Rattle.v7_map.specs.Weak.{IsWeak}
 use Rattle.v7_map.specs.Plan.{PutsInode}
 use Rattle.v7_plans.specs.Placed.{IsPlaced}
 use Rattle.v7_strokes.specs.Inodes.{ended_inode}
-use Rattle.v7_strokes.specs.Freed.{IsFreed, FreesBlocks}
+use Rattle.v7_strokes.specs.Freed.{FreesBlocks}
 use Rattle.v7_strokes.proofs.Freeing.{frees-blocks}
 use Rattle.v7_strokes.proofs.Unnamed.{placed-none, unnamed-sizes, unnamed-address, unnamed-addresses}
 

@@ -1,11 +1,10 @@
 -- Strong for some inodes alone: what keeps it, and how these become fewer or more.
-use Rattle.std.proofs.Common.{◌≡◌, ◌≢◌, ◌⊎◌, ℕ, ◌+◌, ◌<◌, ◌≤◌, true, false, not, ◌==◌, ◌||◌, List, refl, sym, ap, subst, ◌∙◌, arith, ⊎_elim, Some, ltb}
-use Rattle.std.proofs.lemmas.Bool.{cases_eq}
-use Rattle.std.specs.List.{range_with_len, list_any}
-use Rattle.files_model.specs.Files.{sectors_of, Slot}
-use Rattle.v7_map.specs.Frame.{Frame, Head, Place, Body, Single, Double, is_directory}
+use Rattle.std.proofs.Common.{◌≡◌, ◌⊎◌, ℕ, ◌+◌, ◌<◌, ◌≤◌, true, ◌==◌, ◌||◌, List, sym, ◌∙◌, ⊎_elim, ltb}
+use Rattle.std.specs.List.{list_any}
+use Rattle.files_model.specs.Files.{Slot}
+use Rattle.v7_map.specs.Frame.{Frame}
 use Rattle.v7_map.specs.Tree.{tree, is_walked, is_named, links, is_slot_of}
-use Rattle.v7_map.specs.Weak.{IsWeak, IsStrong, IsGood, IsTree, slot_at}
+use Rattle.v7_map.specs.Weak.{IsWeak, IsTree, slot_at}
 use Rattle.v7_plans.specs.Placed.{IsMine}
 use Rattle.v7_strokes.specs.Slots.{SlotChange}
 use Rattle.v7_sets.specs.Sets.{IsFreeBlock}
@@ -30,7 +29,6 @@ strong_change K L f s h = record {
 
 pub strong_but : (K : ℕ → Type 0) (p : ℕ) (f : Frame) → IsStrongFor K f → IsStrongBut K p f
 strong_but K p f s = record { weak = s.weak; counted = s.counted; named = s.named; none_past = λ j k _. s.none_past j k; single_needed = λ j _. s.single_needed j }
-
 
 -- and so does a change of a slot for all that it doesn't name before or after
 pub strong_for_slots : (d k : ℕ) (K : ℕ → Type 0) (f : Frame) (slots : ℕ → List Slot) → IsStrongFor K f → IsWeak (record f { slots = slots }) → SlotChange (tree f) (tree (record f { slots = slots })) d k

@@ -1,5 +1,5 @@
 -- A data block that stands at no place takes a put quietly.
-use Rattle.std.proofs.Common.{◌≡◌, ◌≢◌, ℕ, ◌≤◌, cond, List, [], length, set, ap, ◌∙◌, arith, eqb, get_or-set_other, Some, None}
+use Rattle.std.proofs.Common.{◌≡◌, ◌≢◌, ℕ, cond, List, [], length, set, ap, ◌∙◌, arith, eqb, get_or-set_other, Some, None}
 use Rattle.std.specs.FinMap.{empty}
 use Rattle.files_model.specs.Files.{clipped}
 use Rattle.files_model.proofs.Maps.{tabulated_same}

@@ -1,5 +1,5 @@
 -- What slots name.
-use Rattle.std.proofs.Common.{◌≡◌, ◌≢◌, ℕ, zero, suc, ◌+◌, ◌<◌, ◌≤◌, Bool, true, false, cond, ◌||◌, List, [], ◌∷◌, drop, get_or, refl, ap, ◌∙◌, arith, ⊎_elim, eqb-true, Some, None}
+use Rattle.std.proofs.Common.{◌≡◌, ℕ, zero, suc, ◌+◌, ◌<◌, ◌≤◌, Bool, true, false, cond, ◌||◌, List, [], ◌∷◌, drop, get_or, refl, ap, ◌∙◌, arith, ⊎_elim, eqb-true, Some, None}
 use Rattle.std.proofs.lemmas.Bool.{cases_Bool}
 use Rattle.std.specs.List.{range_with_len, list_any, count_by, flat_map}
 use Rattle.files_model.specs.Files.{Slot}
@@ -43,7 +43,7 @@ counted_any p [] some = absurd (omega arith)
 counted_any p (x ∷ xs) some = ⊎_elim
     (λ (yes : p x ≡ true). ap (λ b. b || list_any p xs) yes)
     (λ (no' : p x ≡ false). let c = count_cons p x xs in let z : ◌≡◌ {A = ℕ} (count_by p (x ∷ [])) 0 = ap (λ b. 0 + cond b 1 0) no' in
-      or_right (p x) (list_any p xs) (counted_any p xs (omega arith)))
+    or_right (p x) (list_any p xs) (counted_any p xs (omega arith)))
     (cases_Bool (p x))
 
 not_in : (s : Slot) → In s [] → ⊥

@@ -1,6 +1,6 @@
 -- A new directory is walked, and no other one; it has two links, and its parent one more. Read backwards: a directory that is taken away.
-use Rattle.std.proofs.Common.{◌≡◌, ◌≢◌, ◌⊎◌, ℕ, zero, suc, ◌+◌, ◌<◌, ◌≤◌, Bool, true, false, cond, ◌||◌, List, [], ◌∷◌, get_or, drop, refl, sym, ap, subst, ◌∙◌, arith, inl, inr, ⊎_elim, Some, None, ◌==◌, eq-eqb, ltb}
-use Rattle.std.proofs.lemmas.Bool.{cases_eq, ne_eqb, eqb-true}
+use Rattle.std.proofs.Common.{◌≡◌, ◌≢◌, ◌⊎◌, ℕ, ◌+◌, ◌<◌, ◌≤◌, Bool, true, false, cond, ◌||◌, List, [], ◌∷◌, get_or, drop, refl, sym, ap, subst, ◌∙◌, arith, inl, inr, ⊎_elim, Some, None, ◌==◌, eq-eqb, ltb}
+use Rattle.std.proofs.lemmas.Bool.{cases_eq, ne_eqb}
 use Rattle.std.specs.List.{range_with_len, list_any, count_by, flat_map}
 use Rattle.files_model.specs.Files.{Slot}
 use Rattle.v7_map.specs.Frame.{Frame}
@@ -8,7 +8,7 @@ use Rattle.v7_map.specs.Tree.{Tree, Walked, root, named, has_slot_of, is_child, 
 use Rattle.v7_map.specs.Weak.{IsTree, HasDots, slot_at, parent}
 use Rattle.v7_map.proofs.Children.{has_slot-at}
 use Rattle.v7_map.proofs.Used.{walked_is_dir}
-use Rattle.v7_map.proofs.Walks.{or_cases, or_left, walked_reached, reached_walked}
+use Rattle.v7_map.proofs.Walks.{or_left, walked_reached, reached_walked}
 use Rattle.v7_strokes.specs.Slots.{NewDirectory}
 use Rattle.v7_strokes.proofs.Aside.{same_bool, slot-named, zero_of}
 use Rattle.v7_strokes.proofs.Names.{slot_of_any, names_is, same_number, none_slot}

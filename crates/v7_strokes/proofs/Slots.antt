@@ -1,6 +1,6 @@
 -- A slot that names no directory changes: the walk stays, and links change by that slot alone.
 use Rattle.std.proofs.Common.{eq-eqb, ◌≡◌, ◌≢◌, ℕ, zero, suc, ◌+◌, ◌<◌, ◌≤◌, Bool, true, false, cond, ◌&&◌, ◌||◌, List, [], ◌∷◌, ◌++◌, get_or, drop, refl, sym, ap, subst, ◌∙◌, arith, ⊎_elim, Some, None, ◌==◌}
-use Rattle.std.proofs.lemmas.Bool.{eqb-true, cases_eq, ne_eqb}
+use Rattle.std.proofs.lemmas.Bool.{cases_eq, ne_eqb}
 use Rattle.std.proofs.lemmas.List.Sums.{sum_by-append}
 use Rattle.std.specs.List.{range_with_len, list_any, count_by, flat_map, filter}
 use Rattle.files_model.specs.Files.{Slot}

@@ -5,7 +5,7 @@ use Rattle.std.specs.FinMap.{insert}
 use Rattle.std.specs.List.{range_with_len, list_any}
 use Rattle.v7_layout.specs.declared.inode.Inode.{Inode}
 use Rattle.v7_layout.specs.Numbers.{field}
-use Rattle.files_model.specs.Files.{Files, sectors_of, tabulated}
+use Rattle.files_model.specs.Files.{sectors_of, tabulated}
 use Rattle.files_model.proofs.Maps.{tabulated_but_one, tabulated_same}
 use Rattle.stable.specs.Store.{Image}
 use Rattle.v7_map.specs.Image.{sector_at, inode_at, inode_sector, inodes_before, is_read_only}

@@ -1,10 +1,9 @@
 -- A directory that is empty loses its only slot: no name leads to it any more, and all others stay walked.
-use Rattle.std.proofs.Common.{◌≡◌, ◌≢◌, ℕ, ◌+◌, ◌<◌, ◌≤◌, Bool, true, false, cond, ◌||◌, List, [], ◌∷◌, get_or, refl, sym, ap, subst, ◌∙◌, arith, ⊎_elim, Some, None, ltb}
+use Rattle.std.proofs.Common.{◌≡◌, ◌≢◌, ℕ, ◌+◌, ◌<◌, ◌≤◌, Bool, true, false, ◌||◌, List, [], ◌∷◌, get_or, refl, sym, ap, subst, ◌∙◌, arith, ⊎_elim, Some, None, ltb}
 use Rattle.std.proofs.lemmas.Bool.{cases_eq, cases_lt, cases_Bool}
-use Rattle.std.specs.List.{count_by}
 use Rattle.files_model.specs.Files.{Slot}
 use Rattle.v7_map.specs.Frame.{Frame, IsFrame}
-use Rattle.v7_map.specs.Tree.{Tree, tree, Walked, root, named, is_child, is_walked, is_named, links, seen_in, seen_slots, is_slot_of}
+use Rattle.v7_map.specs.Tree.{Tree, tree, Walked, root, named, is_child, is_walked, is_named, links}
 use Rattle.v7_map.specs.Weak.{IsWeak, slot_at, parent}
 use Rattle.v7_map.proofs.Children.{Descends, top, down, walked_descends, has_slot-at}
 use Rattle.v7_map.proofs.Walks.{walked_reached, reached_walked}

@@ -3,7 +3,7 @@ use Rattle.std.proofs.Common.{◌≡◌, ◌≢◌, ℕ, suc, ◌+◌, ◌-◌, 
 use Rattle.std.proofs.lemmas.Bool.{cases_eq, cases_lt, ne_eqb}
 use Rattle.std.proofs.lemmas.Cmp.{nat_cmp_total}
 use Rattle.std.specs.Cmp.{unsigned_tied}
-use Rattle.std.specs.FinMap.{FinMap, get, insert, remove, get-remove}
+use Rattle.std.specs.FinMap.{FinMap, get, insert, get-remove}
 use Rattle.files_model.specs.Files.{Node, Files, Slot, tabulated}
 use Rattle.files_model.proofs.Maps.{same_maps, get-insert_same, get-insert_other, get-tabulated, get-tabulated_above}
 use Rattle.stable.specs.Store.{Image}

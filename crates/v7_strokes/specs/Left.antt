@@ -1,12 +1,12 @@
 -- What strokes leave of an image.
-use Rattle.std.specs.Prelude.{◌≡◌, ◌≢◌, ℕ, ◌+◌, ◌-◌, ◌<◌, List, [], ◌∷◌, ◌++◌, set, ◌==◌, if◌then◌else◌, Bool, true, false, Some, None}
+use Rattle.std.specs.Prelude.{◌≡◌, ◌≢◌, ℕ, ◌+◌, ◌-◌, ◌<◌, List, [], ◌∷◌, ◌++◌, set, if◌then◌else◌, Bool, true, false, Some, None}
 use Rattle.std.specs.FinMap.{get}
 use Rattle.v7_layout.specs.declared.inode.Inode.{Inode}
 use Rattle.files_model.specs.Files.{Node, Slot}
 use Rattle.files_model.specs.Step.{with_node}
 use Rattle.stable.specs.Store.{Image}
 use Rattle.v7_map.specs.Frame.{Place, head_of, address_of, frame}
-use Rattle.v7_map.specs.Tree.{tree, is_walked, is_named, is_slot_of, links}
+use Rattle.v7_map.specs.Tree.{tree, is_named, is_slot_of, links}
 use Rattle.v7_map.specs.View.{view, node_at, node_of, body_at}
 use Rattle.v7_map.specs.Weak.{IsWeak, slot_at}
 use Rattle.v7_strokes.specs.Changes.{node_if, changed, with_generation}

@@ -14,7 +14,7 @@ pub use laws::{
     merged_puts_are_a_plan,
 };
 pub use over::planned_sector;
-pub use records::{ended_inode, empty_slot, slot_of, unlinked_inode, with_inode, with_slot};
+pub use records::{empty_slot, ended_inode, slot_of, unlinked_inode, with_inode, with_slot};
 
 #[cfg(test)]
 mod tests;

@@ -5,11 +5,14 @@ use stable::{Failed, Plan, Stable};
 use std::alloc::Global;
 use std::test::Fail;
 use store_mem::Memory;
-use v7_layout::{Inode, Record};
+use v7_layout::Inode;
+use v7_map::inode_in;
 use volume_mem::{FRESH, test_volume};
 
 fn volume(alloc: Global) -> Result<Memory, Fail> {
-    let sectors = test_volume(alloc, FRESH).map_err(|_| "memory")?;
+    let mut sectors = test_volume(alloc, FRESH).map_err(|_| "memory")?;
+    // a store asks that its sectors can be numbered
+    sectors.truncate(64);
     let store = Memory::new(alloc, sectors.as_slice()).map_err(|_| "memory")?;
     Ok(store)
 }
@@ -37,9 +40,9 @@ fn a_name_and_its_file_are_taken_away(rt: HostRuntime) -> Result<(), Fail> {
     let slots = puts[0].1;
     let inodes = puts[2].1;
     assert!(rt; slots[16] == 2 && slots[32] == 0 && slots[34] == 0);
-    let root = Inode::read(&inodes[64..128]);
+    let root = inode_in(&inodes, 2);
     assert!(rt; root.mtime == 2000 && root.ctime == 2000 && root.atime == 1000 && root.nlink == 2);
-    let file = Inode::read(&inodes[128..192]);
+    let file = inode_in(&inodes, 3);
     assert!(rt; file.mode == 0 && file.nlink == 0 && file.direct[0] == 0 && file.generation == 1);
     Ok(())
 }
@@ -62,8 +65,12 @@ fn what_a_plan_puts_is_read_again(rt: HostRuntime) -> Result<(), Fail> {
     let mut store = volume(alloc)?;
     let mut plan = Plan::new(alloc).map_err(|_| "memory")?;
     let inode = name(&mut store, &mut plan).map_err(|_| "store")?;
-    assert!(rt; inode.nlink == 1 && inode.ctime == 3000 && inode.mtime == 1000 && inode.direct[1] == 6);
-    let slots = plan.puts()[0].1;
+    assert!(rt;
+        inode.nlink == 1 && inode.ctime == 3000 && inode.mtime == 1000 && inode.direct[1] == 6
+    );
+    let puts = plan.puts();
+    assert!(rt; puts.len() == 3);
+    let slots = puts[0].1;
     assert!(rt; slots[48] == 9 && slots[50] == b'n' && slots[52] == b'w' && slots[53] == 0);
     Ok(())
 }
