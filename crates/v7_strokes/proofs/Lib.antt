@@ -20,6 +20,7 @@ pub mod DirMap
 pub mod FreeQuiet
 pub mod Freeing
 pub mod Ended
+pub mod Numbers
 pub mod Times
 pub mod Loser
 pub mod Creation

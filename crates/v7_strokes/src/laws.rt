@@ -1,6 +1,6 @@
 // What strokes leave of an image.
 
-ghost use Rattle.std.specs.Prelude.{◌≡◌, ◌≢◌, ◌<◌, ◌≤◌, ℕ, List, [], ◌∷◌, length, set, true, false, Some};
+ghost use Rattle.std.specs.Prelude.{◌≡◌, ◌≢◌, ◌<◌, ◌≤◌, ℕ, List, [], ◌∷◌, ◌+◌, length, set, true, false, Some};
 ghost use Rattle.std.specs.FinMap.{empty, get};
 ghost use Rattle.files_model.specs.Files.{Node, Slot};
 ghost use Rattle.files_model.specs.Space.{size_limit};
@@ -21,7 +21,7 @@ ghost use Rattle.v7_plans.specs.Placed.{IsPlaced};
 ghost use Rattle.v7_plans.specs.Quiet.{IsQuiet};
 ghost use Rattle.v7_sets.specs.Sets.{IsFreeBlock};
 ghost use Rattle.v7_strokes.specs.Entries.{entry_sector};
-ghost use Rattle.v7_strokes.specs.Freed.{FreesBlocks};
+ghost use Rattle.v7_strokes.specs.Freed.{FreesBlocks, ChangesNumber};
 ghost use Rattle.v7_strokes.specs.Inodes.{ended_inode, made_inode, placed_inode, timed_inode};
 ghost use Rattle.v7_strokes.specs.Left.{ChangesSlot, ChangesUnnamed, ChangesAttributes, GrewByASlot, NamedADirectory, TookADirectory};
 ghost use Rattle.v7_strokes.specs.Merged.{merged};
@@ -34,10 +34,13 @@ pub fn a_slot_is_put()
     ensures { (image : Image) (d k a : ℕ) (bytes : List ℕ) (s : Slot) → IsWeak (frame image) → PutsEntry image d k a bytes s → ChangesSlot image (set image a bytes) d k s }
 {}
 
-/// A put of an inode that no name leads to, made or ended, with whatever blocks: the files have its new generation alone.
+/// A put of an inode that no name leads to, made or ended, with whatever blocks: the files have its new generation alone,
+/// and of the i-numbers it alone is taken or free otherwise than before.
 pub fn an_unnamed_inode_is_put()
-    ensures { (image : Image) (i : ℕ) (bytes : List ℕ) (n : Inode) → IsWeak (frame image) → PutsInode image i bytes n → IsPlaced image i (head_of n) → 3 ≤ i
+    ensures left { (image : Image) (i : ℕ) (bytes : List ℕ) (n : Inode) → IsWeak (frame image) → PutsInode image i bytes n → IsPlaced image i (head_of n) → 3 ≤ i
         → is_named (tree (frame image)) i ≡ false → ChangesUnnamed image (set image (inode_sector i) bytes) i n }
+    ensures numbers { (image : Image) (i : ℕ) (bytes : List ℕ) (n : Inode) → IsWeak (frame image) → PutsInode image i bytes n → IsPlaced image i (head_of n) → 3 ≤ i
+        → is_named (tree (frame image)) i ≡ false → i < (tree (frame image)).inodes + 1 → ChangesNumber image (set image (inode_sector i) bytes) i n }
 {}
 
 /// A put of a used inode that changes links, owner, permissions or times: where things are stays, and the files have that node alone changed.

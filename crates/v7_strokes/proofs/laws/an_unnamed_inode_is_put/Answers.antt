@@ -1,8 +1,9 @@
 use Rattle.v7_strokes.proofs.Unnamed.{unnamed-weak, unnamed-head, unnamed-heads, unnamed-address, unnamed-addresses, unnamed-links, unnamed-named, unnamed-view}
+use Rattle.v7_strokes.proofs.Numbers.{unnamed-numbers}
 use Rattle.v7_strokes.proofs.laws.an_unnamed_inode_is_put.Goals as goal
 
-pub returns : goal.returns
-returns c image i bytes n weak puts placed low unnamed = record {
+pub returns-clause-left : goal.returns-clause-left
+returns-clause-left c image i bytes n weak puts placed low unnamed = record {
   weak = unnamed-weak image i bytes n weak puts placed low unnamed;
   head = unnamed-head image i bytes n weak puts placed low unnamed;
   heads = unnamed-heads image i bytes n weak puts placed low unnamed;
@@ -12,3 +13,6 @@ returns c image i bytes n weak puts placed low unnamed = record {
   named = unnamed-named image i bytes n weak puts placed low unnamed;
   files = unnamed-view image i bytes n weak puts placed low unnamed;
 }
+
+pub returns-clause-numbers : goal.returns-clause-numbers
+returns-clause-numbers c image i bytes n weak puts placed low unnamed within = unnamed-numbers image i bytes n weak puts placed low unnamed within
