@@ -13,10 +13,8 @@ pub mod TornCalls
 pub mod Directories
 pub mod Absent
 pub mod GrowStep
-pub mod Ends
-pub mod NewSector
-pub mod Mapped
 pub mod DirMap
+pub mod Longer
 pub mod FreeQuiet
 pub mod Freeing
 pub mod Ended

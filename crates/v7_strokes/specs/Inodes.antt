@@ -57,13 +57,9 @@ loser_inode n old now = if n.nlink == 1 then ended_inode old.generation else unl
 abbrev pub timed_inode : Inode → ℕ → Inode
 timed_inode n now = record n { mtime = now; ctime = now }
 
--- an inode with times now, and longer by one slot
-abbrev pub longer_inode : Inode → ℕ → Inode
-longer_inode n now = record n { size = n.size + 16; mtime = now; ctime = now }
-
--- the same, with other blocks
-abbrev pub widened_inode : Inode → List ℕ → ℕ → ℕ → Inode
-widened_inode n direct single now = record n { size = n.size + 16; direct = direct; single = single; mtime = now; ctime = now }
+-- an inode with times now, longer by one slot, with these blocks
+abbrev pub longer_inode : Inode → List ℕ → ℕ → ℕ → Inode
+longer_inode n direct single now = record n { size = n.size + 16; direct = direct; single = single; mtime = now; ctime = now }
 
 -- an inode with one link more
 abbrev pub linked_inode : Inode → ℕ → Inode

@@ -7,8 +7,9 @@ use Rattle.v7_map.specs.Image.{sector_at, inode_at}
 use Rattle.v7_map.specs.Frame.{Body, head_of, is_directory, address_of, slot_in, slot_of, frame}
 use Rattle.v7_plans.specs.Placed.{IsPlaced}
 use Rattle.files_model.specs.Files.{Slot, sectors_of}
+use Rattle.files_model.specs.Space.{size_limit}
 use Rattle.v7_map.specs.Tree.{Tree, tree, is_walked, is_named, is_slot_of, links}
-use Rattle.v7_map.specs.Weak.{slot_at}
+use Rattle.v7_map.specs.Weak.{IsWeak, slot_at}
 
 -- the slot names nothing, or what is no directory
 abbrev pub IsPlain : Tree → Slot → Type 0
@@ -57,6 +58,18 @@ pub record PutsEntry (image : Image) (d k a : ℕ) (bytes : List ℕ) (s : Slot)
   pub alike : (j : ℕ) → (tree (frame image)).is_dir j ≡ true → is_slot_of j (slot_at (tree (frame image)) d k) ≡ is_slot_of j s
   pub used : (j : ℕ) (name : List ℕ) → s ≡ Some (j, name) → (((frame image).head j).is_used ≡ true) × (name ≢ [])
   pub bound : (j : ℕ) → is_slot_of j s ≡ true → is_slot_of j (slot_at (tree (frame image)) d k) ≡ false → links (tree (frame image)) j + 1 ≤ 65535
+
+-- Slot s may come as the k-th at the end of walked directory d: it names a used inode that is no directory, or nothing, and the directory has room.
+pub record Appends (image : Image) (d k : ℕ) (s : Slot) : Type 0 where
+  pub weak : IsWeak (frame image)
+  pub walked : is_walked (tree (frame image)) d ≡ true
+  pub end : k ≡ ((frame image).head d).size / 16
+  pub even : ((frame image).head d).size % 16 ≡ 0
+  pub within : ((frame image).head d).size + 16 ≤ size_limit
+  pub none_past : (l : ℕ) → k / 32 < l → (frame image).address d (Body l) ≡ 0
+  pub plain : IsPlain (tree (frame image)) s
+  pub used : (j : ℕ) (name : List ℕ) → s ≡ Some (j, name) → (((frame image).head j).is_used ≡ true) × (name ≢ [])
+  pub bound : (j : ℕ) → is_slot_of j s ≡ true → links (tree (frame image)) j + 1 ≤ 65535
 
 -- The inode n makes a walked directory longer by one slot, k, which names no directory. Its sector has been put, and so has a block of addresses that changed.
 pub record GrowsBy (image : Image) (d k : ℕ) (n : Inode) (s : Slot) : Type 0 where
