@@ -31,6 +31,7 @@ pub mod DirStep
 pub mod Vanish
 pub mod DirTaken
 pub mod GrowDirectory
+pub mod Addresses
 mod SlotNames
 mod Overlaid
 mod Replacing

@@ -10,7 +10,7 @@ use Rattle.v7_map.specs.Image.{sector_at, is_inode, inode_at, inode_sector, inod
 use Rattle.v7_map.specs.Frame.{slot_of}
 use Rattle.v7_map.specs.Plan.{PutsInode}
 use Rattle.v7_map.proofs.Splices.{PutsInode-bytes, part_here, part_elsewhere}
-use Rattle.v7_strokes.specs.Over.{ReplacesInode, ReplacesSlot, slot_from}
+use Rattle.v7_strokes.specs.Over.{ReplacesInode, slot_from}
 use Rattle.v7_strokes.specs.Slots.{PutsSlot}
 
 pub replaces-inode : (image : Image) (i : ℕ) (n : Inode) (result : List ℕ) → is_inode image i ≡ true → length (sector_at image (inode_sector i)) ≡ 512 → ReplacesInode (sector_at image (inode_sector i)) i n result → PutsInode image i result n
@@ -20,13 +20,15 @@ slot_of-from : (bytes : List ℕ) → slot_of bytes ≡ slot_from (slot_of_bytes
 unfolding slot_of
 slot_of-from bytes = refl
 
-pub replaces-slot : (sector : List ℕ) (k : ℕ) (s : Slot) (result : List ℕ) → length sector ≡ 512 → ReplacesSlot sector k s result → PutsSlot sector k result (slot_from s)
-replaces-slot sector k s result long r = subst (λ b. PutsSlot sector k b (slot_from s)) (sym r.is) (record {
-  long = let size = r.long in simp (length-append, length-take, length-drop) (omega arith);
-  here = ap slot_of (ap (λ m. part (take (16 * (k % 32)) sector ++ r.bytes ++ drop (16 * (k % 32) + length r.bytes) sector) (16 * (k % 32)) m) (sym r.long)
-      ∙ part_here (16 * (k % 32)) r.bytes sector (omega arith)) ∙ slot_of-from r.bytes ∙ ap slot_from r.reads;
-  others = λ l ne same. ap slot_of (part_elsewhere (16 * (k % 32)) (16 * (l % 32)) 16 r.bytes sector (let size = r.long in omega arith)
-      (let size = r.long in ⊎_elim (λ (lt : l % 32 < k % 32). inl (omega arith)) (λ (ge : k % 32 ≤ l % 32). let ne' : l % 32 ≢ k % 32 = λ e. ne (omega arith) in inr (omega arith)) (cases_lt (l % 32) (k % 32))));
+-- the sector of a directory in which slot k is replaced by these bytes
+pub replaces-slot : (sector : List ℕ) (k : ℕ) (s : Slot) (bytes result : List ℕ) → length sector ≡ 512 → length bytes ≡ 16 → slot_of_bytes bytes ≡ s
+    → result ≡ take (16 * (k % 32)) sector ++ bytes ++ drop (16 * (k % 32) + length bytes) sector → PutsSlot sector k result (slot_from s)
+replaces-slot sector k s bytes result long size reads is = subst (λ b. PutsSlot sector k b (slot_from s)) (sym is) (record {
+  long = simp (length-append, length-take, length-drop) (omega arith);
+  here = ap slot_of (ap (λ m. part (take (16 * (k % 32)) sector ++ bytes ++ drop (16 * (k % 32) + length bytes) sector) (16 * (k % 32)) m) (sym size)
+      ∙ part_here (16 * (k % 32)) bytes sector (omega arith)) ∙ slot_of-from bytes ∙ ap slot_from reads;
+  others = λ l ne same. ap slot_of (part_elsewhere (16 * (k % 32)) (16 * (l % 32)) 16 bytes sector (omega arith)
+      (⊎_elim (λ (lt : l % 32 < k % 32). inl (omega arith)) (λ (ge : k % 32 ≤ l % 32). let ne' : l % 32 ≢ k % 32 = λ e. ne (omega arith) in inr (omega arith)) (cases_lt (l % 32) (k % 32))));
 })
 
 -- an inode that is read from its sector

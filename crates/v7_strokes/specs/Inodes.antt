@@ -1,6 +1,7 @@
 -- Inodes that are made, ended, linked and unlinked.
-use Rattle.std.specs.Prelude.{ℕ, ◌+◌, ◌-◌, ◌*◌, ◌==◌, List, ◌∷◌, replicate, if◌then◌else◌}
+use Rattle.std.specs.Prelude.{ℕ, ◌<◌, ◌^◌, ◌+◌, ◌-◌, ◌*◌, ◌==◌, List, ◌∷◌, replicate, All, if◌then◌else◌}
 use Rattle.v7_layout.specs.declared.inode.Inode.{Inode}
+use Rattle.v7_strokes.specs.declared.records.Blocks.{Blocks}
 use Rattle.files_model.specs.declared.attributes.Kind.{Kind}
 use Rattle.files_model.specs.declared.attributes.Kind.TheVariants.{Regular, Directory, Link}
 use Rattle.files_model.specs.Files.{Node}
@@ -76,3 +77,8 @@ left_inode n now = record n { nlink = n.nlink - 1; mtime = now; ctime = now }
 -- the inode of a new directory whose one sector stands at block a
 unfoldable pub placed_inode : Node → ℕ → ℕ → Inode
 placed_inode n generation a = record (made_inode n generation) { direct = a ∷ replicate 9 0 }
+
+-- each of these addresses fits its three bytes
+pub record BlocksFit (blocks : Blocks) : Type 0 where
+  pub direct : All (λ address. address < 2 ^ 24) blocks.direct
+  pub single : blocks.single < 2 ^ 24

@@ -1,18 +1,18 @@
 // Puts that are added to a plan: each reads a sector as it will be after the plan so far, and changes one record in it.
 
-ghost use Rattle.std.specs.Prelude.{◌≡◌, ◌<◌, ◌++◌, ◌∷◌, [], length, true, IfOk, OnErr, if◌then◌else◌};
+ghost use Rattle.std.specs.Prelude.{◌≡◌, ◌<◌, ◌+◌, ◌^◌, ◌++◌, ◌∷◌, [], length, true, IfOk, OnErr, if◌then◌else◌};
 ghost use Rattle.stable.specs.Counts.{HasCause};
 ghost use Rattle.stable.specs.Looked.{Looked};
 ghost use Rattle.stable.specs.Puts.{put_all};
 ghost use Rattle.v7_layout.specs.Written.{AddressesFit};
 ghost use Rattle.v7_map.specs.Image.{sector_at, is_inode, inode_at, inode_sector};
 ghost use Rattle.v7_map.specs.Plan.{PutsInode};
-ghost use Rattle.v7_strokes.specs.Inodes.{ended_inode, unlinked_inode, timed_inode};
+ghost use Rattle.v7_strokes.specs.Inodes.{ended_inode, unlinked_inode, timed_inode, longer_inode, BlocksFit};
 ghost use Rattle.v7_strokes.specs.Over.{slot_from};
 ghost use Rattle.v7_strokes.specs.Slots.{PutsSlot};
 
 use crate::over::planned_sector;
-use crate::records::{unlinked_inode, with_inode, with_slot};
+use crate::records::{Blocks, longer_inode, unlinked_inode, with_inode, with_slot};
 use stable::{Failed, Plan, Stable};
 use v7_layout::{Inode, Slot};
 use v7_map::{inode_in, inode_sector_of};
@@ -119,4 +119,26 @@ pub fn add_unlinked<S: Stable>(
 {
     let inode = planned_inode(store, plan, ino)?;
     add_inode(store, plan, ino, &unlinked_inode(&inode, last, now))
+}
+
+/// Adds the put of a directory's inode that makes it longer by one slot, with its mtime and ctime now, and these blocks. A size of 2 ^ 32 - 16 or
+/// more, which no directory has, stays. Answers its sector; after a failure the plan is as before.
+pub fn add_longer<S: Stable>(
+    store: &mut S,
+    plan: &mut Plan,
+    ino: u32,
+    blocks: &Blocks,
+    now: u32,
+) -> Result<[u8; 512], Failed>
+    requires room { length plan.old < 420 }
+    requires place { inode_sector ino < S.sector_count store.old }
+    requires fits { BlocksFit blocks.now }
+    ensures added { IfOk result (λ bytes. plan.new ≡ plan.old ++ (inode_sector ino, bytes) ∷ []) }
+    ensures put { S.tells → is_inode (put_all plan.old (S.image store.old)) ino ≡ true → (inode_at (put_all plan.old (S.image store.old)) ino).size + 16 < 2 ^ 32 → IfOk result (λ bytes. PutsInode (put_all plan.old (S.image store.old)) ino bytes (longer_inode (inode_at (put_all plan.old (S.image store.old)) ino) blocks.now.direct blocks.now.single now)) }
+    ensures kept { OnErr result (plan.new ≡ plan.old) }
+    ensures cause { HasCause (S.faults store.old) (S.faults store.new) result }
+    ensures looked { Looked S.Stable store.old store.new }
+{
+    let inode = planned_inode(store, plan, ino)?;
+    add_inode(store, plan, ino, &longer_inode(&inode, blocks, now))
 }

@@ -1,8 +1,9 @@
 // What strokes leave of an image.
 
-ghost use Rattle.std.specs.Prelude.{◌≡◌, ◌≢◌, ◌<◌, ◌≤◌, ℕ, List, [], ◌∷◌, ◌+◌, length, set, true, false, Some};
+ghost use Rattle.std.specs.Prelude.{◌*◌, ◌/◌, ◌%◌, ◌==◌, not, ◌≡◌, ◌≢◌, ◌<◌, ◌≤◌, ℕ, List, [], ◌∷◌, ◌+◌, length, set, true, false, Some};
+ghost use Rattle.std.specs.List.{list_any, range_with_len};
 ghost use Rattle.std.specs.FinMap.{empty, get};
-ghost use Rattle.files_model.specs.Files.{Node, Slot};
+ghost use Rattle.files_model.specs.Files.{Node, Slot, sectors_of};
 ghost use Rattle.files_model.specs.Space.{size_limit};
 ghost use Rattle.files_model.specs.Step.{with_node};
 ghost use Rattle.files_model.specs.Torn.{Asked};
@@ -10,7 +11,7 @@ ghost use Rattle.files_model.specs.declared.attributes.Kind.TheVariants.{Directo
 ghost use Rattle.stable.specs.Store.{Image};
 ghost use Rattle.v7_layout.specs.Numbers.{part};
 ghost use Rattle.v7_layout.specs.declared.inode.Inode.{Inode};
-ghost use Rattle.v7_map.specs.Frame.{Body, head_of, slot_of, frame};
+ghost use Rattle.v7_map.specs.Frame.{Frame, Place, Body, Single, address_of, head_of, slot_of, frame};
 ghost use Rattle.v7_map.specs.Image.{sector_at, inode_at, inode_sector};
 ghost use Rattle.v7_map.specs.Plan.{PutsInode};
 ghost use Rattle.v7_map.specs.Plans.{IsPlanOf};
@@ -22,11 +23,12 @@ ghost use Rattle.v7_plans.specs.Quiet.{IsQuiet};
 ghost use Rattle.v7_sets.specs.Sets.{IsFreeBlock};
 ghost use Rattle.v7_strokes.specs.Entries.{entry_sector};
 ghost use Rattle.v7_strokes.specs.Freed.{FreesBlocks, ChangesNumber};
-ghost use Rattle.v7_strokes.specs.Inodes.{ended_inode, made_inode, placed_inode, timed_inode};
+ghost use Rattle.v7_strokes.specs.Inodes.{ended_inode, longer_inode, made_inode, placed_inode, timed_inode};
 ghost use Rattle.v7_strokes.specs.Left.{ChangesSlot, ChangesUnnamed, ChangesAttributes, GrewByASlot, NamedADirectory, TookADirectory};
 ghost use Rattle.v7_strokes.specs.Merged.{merged};
 ghost use Rattle.v7_strokes.specs.NewNodes.{IsNewFile, IsNewDirectory};
-ghost use Rattle.v7_strokes.specs.Slots.{PutsEntry, GrowsBy, PutsDirectory, TakesDirectory};
+ghost use Rattle.v7_strokes.specs.Slots.{PutsEntry, PutsSlot, Appends, GrowsBy, PutsDirectory, TakesDirectory};
+ghost use Rattle.v7_strokes.specs.Targets.{IsTarget};
 
 /// A put of one slot of a directory, which names no directory before or after, or the same one: the directory's slots are new, and what
 /// the slot named or names has a link less or more. It can be mended, and no block moves.
@@ -55,6 +57,18 @@ pub fn attributes_are_put()
 pub fn a_directory_gets_longer()
     ensures { (image : Image) (d k : ℕ) (n : Inode) (bytes : List ℕ) (s : Slot) → IsWeak (frame image) → PutsInode image d bytes n → GrowsBy image d k n s
         → GrewByASlot image (set image (inode_sector d) bytes) d n s }
+{}
+
+/// A slot may come at the end of a directory: its put doesn't show in a last sector that stands, and the directory's inode then makes it appear,
+/// with each block that it had, and at most one new sector, which may stand in the block of addresses already.
+pub fn a_slot_may_be_appended()
+    ensures quiet { (image : Image) (d k : ℕ) (bytes : List ℕ) (s : Slot) → Appends image d k s → k / 32 < sectors_of ((frame image).head d).size
+        → PutsSlot (sector_at image (entry_sector image d k)) k bytes s → IsQuiet image (entry_sector image d k, bytes) }
+    ensures longer { (image : Image) (d k now : ℕ) (s : Slot) (direct : List ℕ) (single : ℕ) (target : Place → ℕ) → Appends image d k s → IsTarget (frame image) d (k / 32) target
+        → ((p : Place) → address_of image (head_of (longer_inode (inode_at image d) direct single now)) p ≡ target p)
+        → slot_of (part (sector_at image (target (Body (k / 32)))) (16 * (k % 32)) 16) ≡ s → GrowsBy image d k (longer_inode (inode_at image d) direct single now) s }
+    ensures standing { (f : Frame) (d q : ℕ) → IsWeak f → f.address d (Body q) ≢ 0
+        → (f.address d Single ≢ 0 → list_any (λ l. not (f.address d (Body l) == 0)) (range_with_len 10 128) ≡ true) → IsTarget f d q (f.address d) }
 {}
 
 /// A put of an empty slot of a directory that names a directory made before: it appears, and the one it stands in has a link more.

@@ -1,10 +1,12 @@
 // Records that are made, ended, and replaced in their sectors.
 
-ghost use Rattle.std.specs.Prelude.{◌≡◌, ◌≢◌, ◌≤◌, ℕ, length, All, None, Some, if◌then◌else◌};
+ghost use Rattle.std.specs.Prelude.{◌≡◌, ◌≢◌, ◌<◌, ◌≤◌, ◌+◌, ◌-◌, ◌^◌, ℕ, length, All, None, Some, if◌then◌else◌};
 ghost use Rattle.v7_layout.specs.Written.{AddressesFit};
-ghost use Rattle.v7_strokes.specs.Inodes.{ended_inode, unlinked_inode};
-ghost use Rattle.v7_strokes.specs.Over.{ReplacesInode, ReplacesSlot, slot_from};
+ghost use Rattle.v7_strokes.specs.Inodes.{ended_inode, unlinked_inode, longer_inode, BlocksFit};
+ghost use Rattle.v7_strokes.specs.Over.{ReplacesInode, PutsAddress, slot_from};
+ghost use Rattle.v7_strokes.specs.Slots.{PutsSlot};
 
+use byteorder::{ByteOrder, LittleEndian};
 use v7_layout::{Inode, Record, Slot};
 use v7_map::inode_offset_of;
 
@@ -26,13 +28,27 @@ pub fn with_inode(sector: &[u8; 512], ino: u32, inode: &Inode) -> [u8; 512]
 
 /// The sector of a directory with that slot in place of slot `index`, which is counted from the directory's first.
 pub fn with_slot(sector: &[u8; 512], index: u32, slot: &Slot) -> [u8; 512]
-    ensures { ReplacesSlot sector.now index slot.now result }
+    ensures { PutsSlot sector.now index result (slot_from slot.now) }
 {
     let mut bytes = [0; 16];
     slot.write(&mut bytes);
     let at = 16 * (index as usize % 32);
     let mut changed = *sector;
     changed[at..at + 16].copy_from_slice(&bytes);
+    changed
+}
+
+/// The block of addresses with another address of sector `index` of a body, one past the first ten.
+pub fn with_address(block: &[u8; 512], index: u32, address: u32) -> [u8; 512]
+    requires indirect { 10 ≤ index }
+    requires within { index < 138 }
+    ensures { PutsAddress block.now (index - 10) address result }
+{
+    let mut bytes = [0; 4];
+    LittleEndian::write_u32(&mut bytes, address);
+    let at = 4 * (index as usize - 10);
+    let mut changed = *block;
+    changed[at..at + 4].copy_from_slice(&bytes);
     changed
 }
 
@@ -91,6 +107,30 @@ pub fn unlinked_inode(inode: &Inode, last: bool, now: u32) -> Inode
     }
     Inode {
         nlink: inode.nlink.saturating_sub(1),
+        ctime: now,
+        ..*inode
+    }
+}
+
+/// The blocks that an inode gives itself: those of its first ten sectors, and its block of addresses. 0 is none.
+#[derive(Clone, Copy)]
+pub struct Blocks {
+    pub direct: [u32; 10],
+    pub single: u32,
+}
+
+/// A directory's inode longer by one slot, with these blocks, and its mtime and ctime now.
+pub fn longer_inode(inode: &Inode, blocks: &Blocks, now: u32) -> Inode
+    requires inode { AddressesFit inode.now }
+    requires blocks { BlocksFit blocks.now }
+    ensures longer { inode.now.size + 16 < 2 ^ 32 → result ≡ longer_inode inode.now blocks.now.direct blocks.now.single now }
+    ensures fits { AddressesFit result }
+{
+    Inode {
+        size: inode.size.saturating_add(16),
+        direct: blocks.direct,
+        single: blocks.single,
+        mtime: now,
         ctime: now,
         ..*inode
     }
