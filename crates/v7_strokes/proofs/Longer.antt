@@ -1,15 +1,14 @@
 -- A directory gets longer by one slot: in its last sector, in a new one, or in one whose address stands in its block of addresses already.
-use Rattle.std.proofs.Common.{◌≡◌, ◌≢◌, ℕ, ◌+◌, ◌-◌, ◌*◌, ◌/◌, ◌%◌, ◌<◌, ◌≤◌, true, not, ◌==◌, List, [], length, set, refl, sym, ap, subst, ◌∙◌, arith, ⊎_elim, Some}
+use Rattle.std.proofs.Common.{◌≡◌, ◌≢◌, ℕ, ◌+◌, ◌-◌, ◌*◌, ◌/◌, ◌%◌, ◌<◌, ◌≤◌, true, not, ◌==◌, List, length, set, refl, sym, ap, subst, ◌∙◌, arith, ⊎_elim}
 use Rattle.std.proofs.lemmas.Bool.{eqb-true, cases_eq, cases_lt}
 use Rattle.std.specs.List.{range_with_len, list_any}
 use Rattle.v7_layout.specs.declared.inode.Inode.{Inode}
 use Rattle.v7_layout.specs.Numbers.{part, field}
 use Rattle.files_model.specs.Files.{Slot, sectors_of}
-use Rattle.files_model.specs.Space.{size_limit}
 use Rattle.stable.specs.Store.{Image}
 use Rattle.v7_map.specs.Image.{sector_at, inode_at}
 use Rattle.v7_map.specs.Frame.{Frame, Place, Body, Single, Double, head_of, is_directory, address_of, slot_of, frame}
-use Rattle.v7_map.specs.Tree.{tree, is_walked, is_slot_of, links}
+use Rattle.v7_map.specs.Tree.{tree, is_walked}
 use Rattle.v7_map.specs.Weak.{IsWeak, IsGood}
 use Rattle.v7_map.proofs.AnyFrame.{frame-IsFrame}
 use Rattle.v7_map.proofs.Ranges.{address-inside}

@@ -12,7 +12,6 @@ use Rattle.v7_map.specs.View.{view}
 use Rattle.v7_map.specs.Weak.{IsWeak}
 use Rattle.v7_map.specs.Plan.{PutsInode}
 use Rattle.v7_plans.specs.Placed.{IsPlaced}
-use Rattle.v7_sets.specs.Sets.{IsFreeNumber}
 use Rattle.v7_strokes.specs.Freed.{ChangesNumber}
 use Rattle.v7_strokes.proofs.Unnamed.{unnamed-sizes, unnamed-head, unnamed-heads, unnamed-view}
 

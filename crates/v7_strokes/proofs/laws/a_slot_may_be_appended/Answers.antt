@@ -1,4 +1,3 @@
-use Rattle.std.proofs.Common.{refl}
 use Rattle.v7_strokes.proofs.Longer.{end-quiet, longer-grows, standing-target}
 use Rattle.v7_strokes.proofs.laws.a_slot_may_be_appended.Goals as goal
 

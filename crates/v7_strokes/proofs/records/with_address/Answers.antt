@@ -1,4 +1,4 @@
-use Rattle.std.proofs.Common.{rules, ◌≡◌, ◌-◌, ◌*◌, ◌+◌, ◌^◌, ◌<◌, length, ap, ◌∙◌, arith}
+use Rattle.std.proofs.Common.{rules, ◌≡◌, ◌-◌, ◌*◌, ◌+◌, ◌^◌, ◌<◌, length, arith}
 use Rattle.byteorder.specs.Endian.{little_bytes}
 use Rattle.v7_layout.proofs.Parts.{put_mid-splice}
 use Rattle.v7_strokes.proofs.Addresses.{puts-address}
