@@ -1,9 +1,9 @@
-// Puts that are added to a plan: each reads a sector as it will be after the plan so far, and changes one record in it.
+// Puts that are added to a plan, where inodes of one sector that follow each other are one put: each reads a sector as it will be after the plan so far, and changes one record in it.
 
 ghost use Rattle.std.specs.Prelude.{◌≡◌, ◌<◌, ◌+◌, ◌^◌, ◌++◌, ◌∷◌, [], length, true, IfOk, OnErr, if◌then◌else◌};
 ghost use Rattle.stable.specs.Counts.{HasCause};
 ghost use Rattle.stable.specs.Looked.{Looked};
-ghost use Rattle.stable.specs.Puts.{put_all};
+ghost use Rattle.stable.specs.Puts.{put_all, with_put};
 ghost use Rattle.v7_layout.specs.Written.{AddressesFit};
 ghost use Rattle.v7_map.specs.Image.{sector_at, is_inode, inode_at, inode_sector};
 ghost use Rattle.v7_map.specs.Plan.{PutsInode};
@@ -29,7 +29,8 @@ pub fn planned_inode<S: Stable>(store: &mut S, plan: &Plan, ino: u32) -> Result<
     Ok(inode_in(&sector, ino))
 }
 
-/// Adds the put of an inode in place of the one of this number, and answers its sector. After a failure the plan is as before.
+/// Adds the put of an inode in place of the one of this number, and answers its sector. Where the plan's last put is of that sector, both are one.
+/// After a failure the plan is as before.
 pub fn add_inode<S: Stable>(
     store: &mut S,
     plan: &mut Plan,
@@ -39,7 +40,7 @@ pub fn add_inode<S: Stable>(
     requires room { length plan.old < 420 }
     requires place { inode_sector ino < S.sector_count store.old }
     requires fits { AddressesFit inode.now }
-    ensures added { IfOk result (λ bytes. plan.new ≡ plan.old ++ (inode_sector ino, bytes) ∷ []) }
+    ensures added { IfOk result (λ bytes. plan.new ≡ with_put plan.old (inode_sector ino, bytes)) }
     ensures put { S.tells → is_inode (put_all plan.old (S.image store.old)) ino ≡ true → IfOk result (λ bytes. PutsInode (put_all plan.old (S.image store.old)) ino bytes inode.now) }
     ensures kept { OnErr result (plan.new ≡ plan.old) }
     ensures cause { HasCause (S.faults store.old) (S.faults store.new) result }
@@ -48,7 +49,7 @@ pub fn add_inode<S: Stable>(
     let place = inode_sector_of(ino);
     let sector = planned_sector(store, plan, place)?;
     let changed = with_inode(&sector, ino, inode);
-    plan.add(place, &changed);
+    plan.add_or_replace(place, &changed);
     Ok(changed)
 }
 
@@ -85,7 +86,7 @@ pub fn add_times<S: Stable>(
 ) -> Result<[u8; 512], Failed>
     requires room { length plan.old < 420 }
     requires place { inode_sector ino < S.sector_count store.old }
-    ensures added { IfOk result (λ bytes. plan.new ≡ plan.old ++ (inode_sector ino, bytes) ∷ []) }
+    ensures added { IfOk result (λ bytes. plan.new ≡ with_put plan.old (inode_sector ino, bytes)) }
     ensures put { S.tells → is_inode (put_all plan.old (S.image store.old)) ino ≡ true → IfOk result (λ bytes. PutsInode (put_all plan.old (S.image store.old)) ino bytes (timed_inode (inode_at (put_all plan.old (S.image store.old)) ino) now)) }
     ensures kept { OnErr result (plan.new ≡ plan.old) }
     ensures cause { HasCause (S.faults store.old) (S.faults store.new) result }
@@ -111,7 +112,7 @@ pub fn add_unlinked<S: Stable>(
 ) -> Result<[u8; 512], Failed>
     requires room { length plan.old < 420 }
     requires place { inode_sector ino < S.sector_count store.old }
-    ensures added { IfOk result (λ bytes. plan.new ≡ plan.old ++ (inode_sector ino, bytes) ∷ []) }
+    ensures added { IfOk result (λ bytes. plan.new ≡ with_put plan.old (inode_sector ino, bytes)) }
     ensures put { S.tells → is_inode (put_all plan.old (S.image store.old)) ino ≡ true → IfOk result (λ bytes. PutsInode (put_all plan.old (S.image store.old)) ino bytes (if last then ended_inode (inode_at (put_all plan.old (S.image store.old)) ino).generation else unlinked_inode (inode_at (put_all plan.old (S.image store.old)) ino) now)) }
     ensures kept { OnErr result (plan.new ≡ plan.old) }
     ensures cause { HasCause (S.faults store.old) (S.faults store.new) result }
@@ -133,7 +134,7 @@ pub fn add_longer<S: Stable>(
     requires room { length plan.old < 420 }
     requires place { inode_sector ino < S.sector_count store.old }
     requires fits { BlocksFit blocks.now }
-    ensures added { IfOk result (λ bytes. plan.new ≡ plan.old ++ (inode_sector ino, bytes) ∷ []) }
+    ensures added { IfOk result (λ bytes. plan.new ≡ with_put plan.old (inode_sector ino, bytes)) }
     ensures put { S.tells → is_inode (put_all plan.old (S.image store.old)) ino ≡ true → (inode_at (put_all plan.old (S.image store.old)) ino).size + 16 < 2 ^ 32 → IfOk result (λ bytes. PutsInode (put_all plan.old (S.image store.old)) ino bytes (longer_inode (inode_at (put_all plan.old (S.image store.old)) ino) blocks.now.direct blocks.now.single now)) }
     ensures kept { OnErr result (plan.new ≡ plan.old) }
     ensures cause { HasCause (S.faults store.old) (S.faults store.new) result }

@@ -1,6 +1,6 @@
 // What strokes leave of an image.
 
-ghost use Rattle.std.specs.Prelude.{◌*◌, ◌/◌, ◌%◌, ◌==◌, not, ◌≡◌, ◌≢◌, ◌<◌, ◌≤◌, ℕ, List, [], ◌∷◌, ◌+◌, length, set, true, false, Some};
+ghost use Rattle.std.specs.Prelude.{◌*◌, ◌/◌, ◌%◌, ◌==◌, not, ◌≡◌, ◌≢◌, ◌<◌, ◌≤◌, ℕ, List, [], ◌∷◌, ◌++◌, ◌+◌, length, set, true, false, Some};
 ghost use Rattle.std.specs.List.{list_any, range_with_len};
 ghost use Rattle.std.specs.FinMap.{empty, get};
 ghost use Rattle.files_model.specs.Files.{Node, Slot, sectors_of};
@@ -8,6 +8,7 @@ ghost use Rattle.files_model.specs.Space.{size_limit};
 ghost use Rattle.files_model.specs.Step.{with_node};
 ghost use Rattle.files_model.specs.Torn.{Asked};
 ghost use Rattle.files_model.specs.declared.attributes.Kind.TheVariants.{Directory, Regular};
+ghost use Rattle.stable.specs.Puts.{put_all, with_put};
 ghost use Rattle.stable.specs.Store.{Image};
 ghost use Rattle.v7_layout.specs.Numbers.{part};
 ghost use Rattle.v7_layout.specs.declared.inode.Inode.{Inode};
@@ -108,7 +109,11 @@ pub fn a_new_directory_stands_in_a_free_block()
         → IsNewDirectory image p i (placed_inode m generation a) m }
 {}
 
-/// Puts of one sector that follow each other are one put: a plan stays a plan of the same calls.
+/// Puts of one sector that follow each other are one put: a plan stays a plan of the same calls. Where each put takes the place of the last one of
+/// its sector, they are merged.
 pub fn merged_puts_are_a_plan()
-    ensures { (image : Image) (calls : List Asked) (now : ℕ) (puts : List (ℕ × List ℕ)) → IsPlanOf image calls now puts → IsPlanOf image calls now (merged puts) }
+    ensures plan { (image : Image) (calls : List Asked) (now : ℕ) (puts : List (ℕ × List ℕ)) → IsPlanOf image calls now puts → IsPlanOf image calls now (merged puts) }
+    ensures image { (image : Image) (puts : List (ℕ × List ℕ)) → put_all (merged puts) image ≡ put_all puts image }
+    ensures step { (puts : List (ℕ × List ℕ)) (put : ℕ × List ℕ) → merged (puts ++ put ∷ []) ≡ with_put (merged puts) put }
+    ensures few { (puts : List (ℕ × List ℕ)) (put : ℕ × List ℕ) → length (with_put puts put) ≤ length puts + 1 }
 {}

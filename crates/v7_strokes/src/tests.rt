@@ -35,10 +35,10 @@ fn a_name_and_its_file_are_taken_away(rt: HostRuntime) -> Result<(), Fail> {
     let mut plan = Plan::new(alloc).map_err(|_| "memory")?;
     take(&mut store, &mut plan).map_err(|_| "store")?;
     let puts = plan.puts();
-    assert!(rt; puts.len() == 3);
-    assert!(rt; puts[0].0 == 4 && puts[1].0 == 2 && puts[2].0 == 2);
+    assert!(rt; puts.len() == 2);
+    assert!(rt; puts[0].0 == 4 && puts[1].0 == 2);
     let slots = puts[0].1;
-    let inodes = puts[2].1;
+    let inodes = puts[1].1;
     assert!(rt; slots[16] == 2 && slots[32] == 0 && slots[34] == 0);
     let root = inode_in(&inodes, 2);
     assert!(rt; root.mtime == 2000 && root.ctime == 2000 && root.atime == 1000 && root.nlink == 2);
@@ -69,7 +69,7 @@ fn what_a_plan_puts_is_read_again(rt: HostRuntime) -> Result<(), Fail> {
         inode.nlink == 1 && inode.ctime == 3000 && inode.mtime == 1000 && inode.direct[1] == 6
     );
     let puts = plan.puts();
-    assert!(rt; puts.len() == 3);
+    assert!(rt; puts.len() == 2);
     let slots = puts[0].1;
     assert!(rt; slots[48] == 9 && slots[50] == b'n' && slots[52] == b'w' && slots[53] == 0);
     Ok(())
