@@ -19,6 +19,7 @@ pub mod FreeQuiet
 pub mod Freeing
 pub mod Ended
 pub mod Numbers
+pub mod SetsAfter
 pub mod Times
 pub mod Loser
 pub mod Creation

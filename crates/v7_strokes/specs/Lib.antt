@@ -8,3 +8,4 @@ pub mod Freed
 pub mod Over
 pub mod Changes
 pub mod Left
+pub mod FreeSets

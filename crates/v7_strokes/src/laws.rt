@@ -1,8 +1,9 @@
 // What strokes leave of an image.
 
-ghost use Rattle.std.specs.Prelude.{◌*◌, ◌/◌, ◌%◌, ◌==◌, not, ◌≡◌, ◌≢◌, ◌<◌, ◌≤◌, ℕ, List, [], ◌∷◌, ◌++◌, ◌+◌, length, set, true, false, Some};
+ghost use Rattle.std.specs.Prelude.{◌*◌, ◌/◌, ◌%◌, ◌==◌, not, ◌≡◌, ◌≢◌, ◌<◌, ◌≤◌, ⊥, ℕ, Bool, List, [], ◌∷◌, ◌++◌, ◌+◌, length, set, true, false, Some};
 ghost use Rattle.std.specs.List.{list_any, range_with_len};
-ghost use Rattle.std.specs.FinMap.{empty, get};
+ghost use Rattle.std.specs.Ordering.{nat_cmp};
+ghost use Rattle.std.specs.FinMap.{FinMap, empty, get};
 ghost use Rattle.files_model.specs.Files.{Node, Slot, sectors_of};
 ghost use Rattle.files_model.specs.Space.{size_limit};
 ghost use Rattle.files_model.specs.Step.{with_node};
@@ -21,8 +22,9 @@ ghost use Rattle.v7_map.specs.View.{view};
 ghost use Rattle.v7_map.specs.Weak.{IsWeak};
 ghost use Rattle.v7_plans.specs.Placed.{IsPlaced};
 ghost use Rattle.v7_plans.specs.Quiet.{IsQuiet};
-ghost use Rattle.v7_sets.specs.Sets.{IsFreeBlock};
+ghost use Rattle.v7_sets.specs.Sets.{IsFreeBlock, IsFreeNumber};
 ghost use Rattle.v7_strokes.specs.Entries.{entry_sector};
+ghost use Rattle.v7_strokes.specs.FreeSets.{HoldsBlocks, HoldsNumbers, GivesBlocks, TakesBlocks, GainsBlocks, KeepsNumbers};
 ghost use Rattle.v7_strokes.specs.Freed.{FreesBlocks, ChangesNumber};
 ghost use Rattle.v7_strokes.specs.Inodes.{ended_inode, longer_inode, made_inode, placed_inode, timed_inode};
 ghost use Rattle.v7_strokes.specs.Left.{ChangesSlot, ChangesUnnamed, ChangesAttributes, GrewByASlot, NamedADirectory, TookADirectory};
@@ -93,6 +95,22 @@ pub fn a_free_block_takes_a_put()
 pub fn an_ended_inode_frees_its_blocks()
     ensures { (image : Image) (i generation : ℕ) (bytes : List ℕ) → IsWeak (frame image) → PutsInode image i bytes (ended_inode generation) → 3 ≤ i
         → is_named (tree (frame image)) i ≡ false → FreesBlocks i (frame image) (frame (set image (inode_sector i) bytes)) }
+{}
+
+/// The sets of free blocks stay exact: where an inode ended, once its blocks are given, and where one has more blocks, once these are taken.
+pub fn the_free_blocks_follow()
+    ensures given { (f g : Frame) (i : ℕ) (old new : List Bool) → IsWeak f → FreesBlocks i f g → g.isize ≡ f.isize → HoldsBlocks f old → GivesBlocks f i old new → HoldsBlocks g new }
+    ensures taken { (f g : Frame) (i : ℕ) (old new : List Bool) → IsWeak f → GainsBlocks i f g → HoldsBlocks f old → TakesBlocks g i old new → HoldsBlocks g new }
+{}
+
+/// The sets of free i-numbers stay exact: where no inode is made or ended, and where one is, once its number is taken, or given if its generation can
+/// go up.
+pub fn the_free_numbers_follow()
+    ensures kept { (f g : Frame) (before after : FinMap nat_cmp ℕ) (inodes : List Bool) → KeepsNumbers f g before after → HoldsNumbers f before inodes → HoldsNumbers g after inodes }
+    ensures taken { (old new : Image) (i : ℕ) (n : Inode) (inodes : List Bool) → ChangesNumber old new i n → HoldsNumbers (frame old) (view old).generations inodes
+        → (IsFreeNumber (frame new) (view new).generations i → ⊥) → HoldsNumbers (frame new) (view new).generations (set inodes i false) }
+    ensures given { (old new : Image) (i : ℕ) (n : Inode) (inodes : List Bool) → ChangesNumber old new i n → HoldsNumbers (frame old) (view old).generations inodes
+        → i < length inodes → IsFreeNumber (frame new) (view new).generations i → HoldsNumbers (frame new) (view new).generations (set inodes i true) }
 {}
 
 /// The inode of a file without sectors is that of a new one.
