@@ -1,6 +1,6 @@
 // What strokes leave of an image.
 
-ghost use Rattle.std.specs.Prelude.{◌*◌, ◌/◌, ◌%◌, ◌==◌, not, ◌≡◌, ◌≢◌, ◌<◌, ◌≤◌, ⊥, ℕ, Bool, List, [], ◌∷◌, ◌++◌, ◌+◌, length, set, true, false, Some};
+ghost use Rattle.std.specs.Prelude.{◌*◌, ◌/◌, ◌%◌, ◌==◌, not, ◌≡◌, ◌≢◌, ◌<◌, ◌≤◌, ℕ, Bool, List, [], ◌∷◌, ◌++◌, ◌+◌, length, set, true, false, Some};
 ghost use Rattle.std.specs.List.{list_any, range_with_len};
 ghost use Rattle.std.specs.Ordering.{nat_cmp};
 ghost use Rattle.std.specs.FinMap.{FinMap, empty, get};
