@@ -63,8 +63,9 @@ module _ (image : Image) (i : ℕ) (n : Inode) (m : Node) (b1 : List ℕ) (stron
       let slots : (tree (frame first)).slots i ≡ [] = put-slots image i b1 n strong.weak puts is.placed.mine is.placed.needed ∙ no_slots image (head_of n) is.file in
       let inode : inode_at first i ≡ n = unnamed-inode image i b1 n strong.weak puts is.placed low unnamed in
       let body : body_at first (frame first) i ≡ body_of image (head_of n) (address_of image (head_of n)) = put-body image i b1 n strong.weak puts is.placed.mine is.placed.needed in
-      (λ z. record (node_of (tree (frame first)) i (inode z) (body z)) { slots = (slots ∙ sym is.no_slots) z })
-      ∙ ap (λ (x : Node). record x { nlink = links (tree (frame first)) i; slots = m.slots }) is.is
+      let made : node_at first i ≡ record (node_of (tree (frame first)) i n (body_of image (head_of n) (address_of image (head_of n)))) { slots = m.slots } =
+      λ z. record (node_of (tree (frame first)) i (inode z) (body z)) { slots = (slots ∙ sym is.no_slots) z } in
+      made ∙ ap (λ (x : Node). record x { nlink = links (tree (frame first)) i; slots = m.slots }) is.is
 
   -- ---- the slot, in a sector that the directory has
 

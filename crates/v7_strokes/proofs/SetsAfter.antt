@@ -1,5 +1,5 @@
 -- The sets of free blocks and i-numbers after one inode changed.
-use Rattle.std.proofs.Common.{◌≡◌, ◌≢◌, ◌⊎◌, ℕ, ◌+◌, ◌-◌, ◌^◌, ◌<◌, ◌≤◌, Bool, true, false, List, length, set, get_or, refl, sym, ap, subst, ◌∙◌, arith, inl, inr, ⊎_elim, get_or-set_other, get_or-set_same, length-set, Some}
+use Rattle.std.proofs.Common.{◌≡◌, ◌≢◌, ℕ, ◌+◌, ◌<◌, ◌≤◌, Bool, true, false, List, length, set, sym, ap, subst, ◌∙◌, arith, ⊎_elim, get_or-set_other, get_or-set_same, length-set}
 use Rattle.std.proofs.lemmas.Bool.{cases_eq, cases_lt, cases_Bool}
 use Rattle.std.proofs.lemmas.List.{get_or_past}
 use Rattle.std.specs.Ordering.{nat_cmp}
@@ -8,7 +8,7 @@ use Rattle.v7_layout.specs.declared.inode.Inode.{Inode}
 use Rattle.index_sets.specs.Free.{is_free}
 use Rattle.stable.specs.Store.{Image}
 use Rattle.v7_map.specs.Image.{inodes_before}
-use Rattle.v7_map.specs.Frame.{Frame, Place, head_of, frame}
+use Rattle.v7_map.specs.Frame.{Frame, Place, frame}
 use Rattle.v7_map.specs.View.{view}
 use Rattle.v7_map.specs.Weak.{IsWeak}
 use Rattle.v7_sets.specs.Sets.{IsFreeBlock, IsFreeNumber, AreSets}
