@@ -150,6 +150,13 @@ module _ (old : Image) (d k : ℕ) (n : Inode) (bytes : List ℕ) (s : Slot) (we
   unfolding new
   grow-head = head_new
 
+  pub grow-address : (p : Place) → (frame (set old (inode_sector d) bytes)).address d p ≡ address_of old (head_of n) p
+  grow-address = put-address old d bytes n weak puts x.placed.mine x.placed.needed
+
+  pub grow-addresses : (j : ℕ) → j ≢ d → (p : Place) → (frame (set old (inode_sector d) bytes)).address j p ≡ (frame old).address j p
+  unfolding new
+  grow-addresses = but.addresses
+
   pub grow-heads : (j : ℕ) → j ≢ d → (frame (set old (inode_sector d) bytes)).head j ≡ (frame old).head j
   unfolding new
   grow-heads = but.heads

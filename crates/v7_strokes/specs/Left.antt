@@ -51,6 +51,8 @@ pub record GrewByASlot (old new : Image) (d : ℕ) (n : Inode) (s : Slot) : Type
   pub weak : IsWeak (frame new)
   pub head : (frame new).head d ≡ head_of n
   pub heads : (j : ℕ) → j ≢ d → (frame new).head j ≡ (frame old).head j
+  pub own : (p : Place) → (frame new).address d p ≡ address_of old (head_of n) p
+  pub blocks : (j : ℕ) → j ≢ d → (p : Place) → (frame new).address j p ≡ (frame old).address j p
   pub linked : (j : ℕ) → links (tree (frame new)) j ≡ links (tree (frame old)) j + one (is_slot_of j s)
   pub files : (i : ℕ) (m : Node) → ((j : ℕ) → j ≢ i → is_slot_of j s ≡ false) → d ≢ i → i < (tree (frame old)).inodes + 1 → get (view old).nodes d ≡ Some m
       → view new ≡ changed (view old) i (node_if new i) d (record m { uid = n.uid; gid = n.gid; size = n.size; atime = n.atime; mtime = n.mtime; ctime = n.ctime; slots = m.slots ++ s ∷ [] })
@@ -70,6 +72,7 @@ pub record NamedADirectory (old new : Image) (d k i : ℕ) (name : List ℕ) : T
 pub record TookADirectory (old new : Image) (d k i : ℕ) : Type 0 where
   pub weak : IsWeak (frame new)
   pub heads : (j : ℕ) → (frame new).head j ≡ (frame old).head j
+  pub blocks : (j : ℕ) (p : Place) → (frame new).address j p ≡ (frame old).address j p
   pub unnamed : is_named (tree (frame new)) i ≡ false
   pub one_less : links (tree (frame new)) d + 1 ≡ links (tree (frame old)) d
   pub linked : (j : ℕ) → j ≢ i → j ≢ d → links (tree (frame new)) j ≡ links (tree (frame old)) j
