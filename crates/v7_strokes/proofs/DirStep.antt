@@ -133,6 +133,10 @@ module _ (old : Image) (d k i : ℕ) (name : List ℕ) (bytes : List ℕ) (weak 
   unfolding next new
   dir-head j = ap (λ (f : Frame). f.head j) same
 
+  pub dir-sizes : ((frame (set old ((frame old).address d (Body (k / 32))) bytes)).isize ≡ (frame old).isize) × ((frame (set old ((frame old).address d (Body (k / 32))) bytes)).fsize ≡ (frame old).fsize)
+  unfolding next new
+  dir-sizes = (ap (λ (f : Frame). f.isize) same, ap (λ (f : Frame). f.fsize) same)
+
   pub dir-address : (j : ℕ) (p : Place) → (frame (set old ((frame old).address d (Body (k / 32))) bytes)).address j p ≡ (frame old).address j p
   unfolding next new
   dir-address j p = ap (λ (f : Frame). f.address j p) same

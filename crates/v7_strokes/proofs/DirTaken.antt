@@ -93,6 +93,10 @@ module _ (old : Image) (d k i : ℕ) (name : List ℕ) (bytes : List ℕ) (weak 
   unfolding new
   gone-unnamed = ap (λ f. is_named (tree f) i) same ∙ change.unnamed
 
+  pub gone-sizes : ((frame (set old ((frame old).address d (Body (k / 32))) bytes)).isize ≡ (frame old).isize) × ((frame (set old ((frame old).address d (Body (k / 32))) bytes)).fsize ≡ (frame old).fsize)
+  unfolding next new
+  gone-sizes = (ap (λ (f : Frame). f.isize) same, ap (λ (f : Frame). f.fsize) same)
+
   pub gone-address : (j : ℕ) (p : Place) → (frame (set old ((frame old).address d (Body (k / 32))) bytes)).address j p ≡ (frame old).address j p
   unfolding next new
   gone-address j p = ap (λ (f : Frame). f.address j p) same

@@ -150,6 +150,10 @@ module _ (old : Image) (d k : ℕ) (n : Inode) (bytes : List ℕ) (s : Slot) (we
   unfolding new
   grow-head = head_new
 
+  pub grow-sizes : ((frame (set old (inode_sector d) bytes)).isize ≡ (frame old).isize) × ((frame (set old (inode_sector d) bytes)).fsize ≡ (frame old).fsize)
+  unfolding new
+  grow-sizes = (but.isize, but.fsize)
+
   pub grow-address : (p : Place) → (frame (set old (inode_sector d) bytes)).address d p ≡ address_of old (head_of n) p
   grow-address = put-address old d bytes n weak puts x.placed.mine x.placed.needed
 

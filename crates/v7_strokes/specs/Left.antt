@@ -18,6 +18,7 @@ one b = if b then 1 else 0
 -- Slot k of directory d became s, and nothing else changed.
 pub record ChangesSlot (old new : Image) (d k : ℕ) (s : Slot) : Type 0 where
   pub weak : IsWeak (frame new)
+  pub sizes : ((frame new).isize ≡ (frame old).isize) × ((frame new).fsize ≡ (frame old).fsize)
   pub heads : (j : ℕ) → (frame new).head j ≡ (frame old).head j
   pub blocks : (j : ℕ) (p : Place) → (frame new).address j p ≡ (frame old).address j p
   pub linked : (j : ℕ) → links (tree (frame new)) j + one (is_slot_of j (slot_at (tree (frame old)) d k)) ≡ links (tree (frame old)) j + one (is_slot_of j s)
@@ -29,6 +30,7 @@ pub record ChangesSlot (old new : Image) (d k : ℕ) (s : Slot) : Type 0 where
 -- Inode i, which no name leads to, became n; the files have its new generation alone.
 pub record ChangesUnnamed (old new : Image) (i : ℕ) (n : Inode) : Type 0 where
   pub weak : IsWeak (frame new)
+  pub sizes : ((frame new).isize ≡ (frame old).isize) × ((frame new).fsize ≡ (frame old).fsize)
   pub head : (frame new).head i ≡ head_of n
   pub heads : (j : ℕ) → j ≢ i → (frame new).head j ≡ (frame old).head j
   pub own : (p : Place) → (frame new).address i p ≡ address_of old (head_of n) p
@@ -40,6 +42,7 @@ pub record ChangesUnnamed (old new : Image) (i : ℕ) (n : Inode) : Type 0 where
 -- Inode i became n, which differs in links, owner, permissions and times alone.
 pub record ChangesAttributes (old new : Image) (i : ℕ) (n : Inode) : Type 0 where
   pub weak : IsWeak (frame new)
+  pub sizes : ((frame new).isize ≡ (frame old).isize) × ((frame new).fsize ≡ (frame old).fsize)
   pub same_tree : tree (frame new) ≡ tree (frame old)
   pub head : (frame new).head i ≡ head_of n
   pub heads : (j : ℕ) → j ≢ i → (frame new).head j ≡ (frame old).head j
@@ -49,6 +52,7 @@ pub record ChangesAttributes (old new : Image) (i : ℕ) (n : Inode) : Type 0 wh
 -- Directory d got longer by slot s, by inode n.
 pub record GrewByASlot (old new : Image) (d : ℕ) (n : Inode) (s : Slot) : Type 0 where
   pub weak : IsWeak (frame new)
+  pub sizes : ((frame new).isize ≡ (frame old).isize) × ((frame new).fsize ≡ (frame old).fsize)
   pub head : (frame new).head d ≡ head_of n
   pub heads : (j : ℕ) → j ≢ d → (frame new).head j ≡ (frame old).head j
   pub own : (p : Place) → (frame new).address d p ≡ address_of old (head_of n) p
@@ -60,6 +64,7 @@ pub record GrewByASlot (old new : Image) (d : ℕ) (n : Inode) (s : Slot) : Type
 -- Slot k of directory d came to name new directory i.
 pub record NamedADirectory (old new : Image) (d k i : ℕ) (name : List ℕ) : Type 0 where
   pub weak : IsWeak (frame new)
+  pub sizes : ((frame new).isize ≡ (frame old).isize) × ((frame new).fsize ≡ (frame old).fsize)
   pub heads : (j : ℕ) → (frame new).head j ≡ (frame old).head j
   pub blocks : (j : ℕ) (p : Place) → (frame new).address j p ≡ (frame old).address j p
   pub two : links (tree (frame new)) i ≡ 2
@@ -71,6 +76,7 @@ pub record NamedADirectory (old new : Image) (d k i : ℕ) (name : List ℕ) : T
 -- Slot k of directory d named empty directory i, and is empty.
 pub record TookADirectory (old new : Image) (d k i : ℕ) : Type 0 where
   pub weak : IsWeak (frame new)
+  pub sizes : ((frame new).isize ≡ (frame old).isize) × ((frame new).fsize ≡ (frame old).fsize)
   pub heads : (j : ℕ) → (frame new).head j ≡ (frame old).head j
   pub blocks : (j : ℕ) (p : Place) → (frame new).address j p ≡ (frame old).address j p
   pub unnamed : is_named (tree (frame new)) i ≡ false
