@@ -22,6 +22,7 @@ pub mod Numbers
 pub mod SetsAfter
 pub mod Times
 pub mod Loser
+pub mod Finishing
 pub mod Creation
 pub mod Merging
 pub mod NewFile

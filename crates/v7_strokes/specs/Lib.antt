@@ -9,3 +9,4 @@ pub mod Over
 pub mod Changes
 pub mod Left
 pub mod FreeSets
+pub mod Last
