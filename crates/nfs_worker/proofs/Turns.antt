@@ -1,5 +1,5 @@
 -- One turn, by what was heard and what came of it.
-use Rattle.std.proofs.Common.{arith, ◌≡◌, ◌≢◌, ℕ, ◌+◌, ◌-◌, ◌≤◌, List, [], ◌∷◌, ◌++◌, length, Option, Some, refl, sym, ap, ◌∙◌, subst, append-nil, length-append, ◌<◌}
+use Rattle.std.proofs.Common.{arith, ◌≡◌, ◌≢◌, ℕ, ◌+◌, ◌-◌, ◌≤◌, List, [], ◌∷◌, ◌++◌, length, Some, refl, sym, ap, ◌∙◌, subst, append-nil, length-append, ◌<◌}
 use Rattle.files_model.specs.declared.address.Address.{Address}
 use Rattle.files_model.specs.History.{Event as Done, Item, items_of}
 use Rattle.stable.specs.Counts.{Rose, RoseBy}
@@ -14,7 +14,7 @@ use Rattle.rig.specs.declared.link.Event.{Event}
 use Rattle.rig.specs.declared.link.Event.TheVariants as event
 use Rattle.nfs2_wire.specs.Meaning.{meaning}
 use Rattle.nfs2_wire.specs.Meaning.Meaning.{Outside}
-use Rattle.nfs_worker.specs.Account.{Hold, history, Grew}
+use Rattle.nfs_worker.specs.Account.{history, Grew}
 use Rattle.nfs_worker.specs.Tending.{IsTended, is_new}
 use Rattle.nfs_worker.specs.Turns.{Says, EventTurn, Counts, Turned, IsAsked, TurnsTaken, Worked, EndsBy, datagrams}
 use Rattle.nfs_worker.specs.Worker.{worker_at, worker_of, Worker, Own, Mixes, owned, Sends, Works, request_of, outside_of, replies_of}

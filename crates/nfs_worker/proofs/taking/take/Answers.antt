@@ -1,13 +1,10 @@
 use Rattle.std.proofs.Common.{List, ℕ, refl, subst}
-use Rattle.rig.specs.declared.link.Event.TheVariants as event
 use Rattle.volume.specs.Mounted.{store_of}
 use Rattle.nfs_worker.specs.Answers.{Answers}
-use Rattle.nfs_worker.specs.Tending.{IsUntended}
-use Rattle.nfs_worker.specs.Worker.{worker_of}
 use Rattle.nfs_worker.proofs.Accounts.{grew_none}
 use Rattle.nfs_worker.proofs.Reactions.{turned_replied}
 use Rattle.nfs_worker.proofs.Resting.{stays_so}
-use Rattle.nfs_worker.proofs.Turns.{IsTaken, turned_quiet}
+use Rattle.nfs_worker.proofs.Turns.{turned_quiet}
 use Rattle.nfs_worker.proofs.taking.take.Goals as goal
 
 pub returns-in_default : goal.returns-in_default
