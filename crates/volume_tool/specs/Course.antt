@@ -1,5 +1,5 @@
 -- How far a run of the tool comes, and its status and line (docs/CALLS.md, "Lines and statuses").
-use Rattle.std.specs.Prelude.{ℕ, List}
+use Rattle.std.specs.Prelude.{ℕ, Bool, true, false, List}
 use Rattle.rig.specs.declared.host.HostFault.{HostFault}
 use Rattle.presto_recover.specs.declared.fault.OpenFault.{OpenFault as UnitFault}
 use Rattle.v7_damage.specs.declared.damage.RepairFault.{RepairFault}
@@ -63,15 +63,15 @@ line_of (Checked seen) = seen_line seen
 line_of NotStopped = device_line
 line_of (Recovered recovered repaired) = recovered_line recovered repaired
 
--- how many rigs the host gave
-abbrev pub rigs_in : Course → ℕ
-rigs_in Usage = 0
-rigs_in (Unfit fault) = 0
-rigs_in (NoRig word fault) = 0
-rigs_in (NotMade fault) = 1
-rigs_in (Made sectors inodes free) = 1
-rigs_in (NoUnit fault) = 1
-rigs_in (NoVolume fault) = 1
-rigs_in (Checked seen) = 1
-rigs_in NotStopped = 1
-rigs_in (Recovered recovered repaired) = 1
+-- the host gave a rig
+abbrev pub has_rig : Course → Bool
+has_rig Usage = false
+has_rig (Unfit fault) = false
+has_rig (NoRig word fault) = false
+has_rig (NotMade fault) = true
+has_rig (Made sectors inodes free) = true
+has_rig (NoUnit fault) = true
+has_rig (NoVolume fault) = true
+has_rig (Checked seen) = true
+has_rig NotStopped = true
+has_rig (Recovered recovered repaired) = true

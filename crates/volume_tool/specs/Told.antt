@@ -5,6 +5,7 @@ use Rattle.rig.specs.Links.{gains}
 use Rattle.rig.specs.declared.host.Host.{Ghosts}
 use Rattle.rig.specs.declared.say.Say.{Ghosts as SayGhosts}
 use Rattle.run_lines.specs.Told.{Said, SameHost}
+use Rattle.volume_tool.specs.Course.{Course, status_of, line_of}
 
 -- the line was said
 pub record IsSaid {S : Type 0} (say : SayGhosts S) (old new : S) (line : List ℕ) : Type 0 where
@@ -29,3 +30,9 @@ Answers say (suc n) line old new result = (result ≡ suc n) × Said say old new
 pub record Tells {S R L C P : Type 0} (h : Ghosts S R L C P) (say : SayGhosts S) (status : ℕ) (line : List ℕ) (old new : S) (result : ℕ) : Type 0 where
   pub same : SameHost h old new
   pub answers : Answers say status line old new result
+
+-- A run came so far, of which this is found, and answered by its course.
+pub record Runs {S R L C P : Type 0} (h : Ghosts S R L C P) (say : SayGhosts S) (Found : Course → Type 0) (old new : S) (result : ℕ) : Type 0 where
+  pub course : Course
+  pub found : Found course
+  pub tells : Tells h say (status_of course) (line_of course) old new result

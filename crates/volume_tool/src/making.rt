@@ -117,11 +117,7 @@ fn make_on<R: Rig + Drop>(alloc: Global, rig: R, plan: &Plan) -> (Result<u32, Ma
 
 /// Makes a volume as planned on a rig that was made for it: its board, if there is one, is formatted with the name and marked as kept. It answers how
 /// many blocks are free. After `Failed` and `NoMemory` there may be none.
-pub fn make_volume<R: Rig + Drop>(
-    alloc: Global,
-    rig: R,
-    plan: &Plan,
-) -> (Result<u32, MakeFault>, R)
+pub fn make_volume<R: Rig + Drop>(alloc: Global, rig: R, plan: &Plan) -> (Result<u32, MakeFault>, R)
     requires size { (R.sizes rig).sectors ≡ plan.now.size }
     requires buffers { (R.sizes rig).buffers ≡ plan.now.buffers }
     requires some { 1 ≤ plan.now.inodes }

@@ -1,10 +1,10 @@
 //! The words of the command line.
-ghost use Rattle.std.specs.Prelude.{◌≡◌, ◌≤◌, ◌<◌, length, IfSome, map, string_bytes};
+ghost use Rattle.std.specs.Prelude.{◌≡◌, ◌≤◌, IfSome, map, string_bytes};
 ghost use Rattle.std.specs.Char.{is_ascii_alphanumeric};
 ghost use Rattle.std.specs.List.{list_all};
 ghost use Rattle.std.specs.Option.{option_map};
 ghost use Rattle.volume_tool.specs.Words.{name_of, fits_board, plan_of, make_of, check_of, loss_of, recover_of, asked_by};
-ghost use Rattle.volume_tool.specs.Asking.{plan_read, asked_of};
+ghost use Rattle.volume_tool.specs.Asking.{plan_read, asked_of, IsRead};
 
 use run_lines::{Named, read_number, read_volume};
 
@@ -27,11 +27,19 @@ pub struct Plan {
 #[derive(Clone, Copy)]
 pub enum Asked<'a> {
     /// A volume is to be made.
-    Make { volume: Named<'a>, plan: Plan },
+    Make {
+        volume: Named<'a>,
+        plan: Plan,
+    },
     /// One is to be inspected.
-    Check { volume: Named<'a> },
+    Check {
+        volume: Named<'a>,
+    },
     /// One is to be mended and stopped cleanly, perhaps with the loss of its board accepted.
-    Recover { volume: Named<'a>, accept_loss: bool },
+    Recover {
+        volume: Named<'a>,
+        accept_loss: bool,
+    },
 }
 
 // Whether these are letters and digits.
@@ -60,7 +68,8 @@ fn read_name(text: &[u8]) -> Option<[u8; 6]>
 
 // The numbers and the name of a volume that is to be made.
 fn read_plan(words: &[String]) -> Option<Plan>
-    ensures { option_map plan_read result ≡ plan_of (map string_bytes words.now) }
+    ensures plan { option_map plan_read result ≡ plan_of (map string_bytes words.now) }
+    ensures some { IfSome result (λ plan. 1 ≤ plan.inodes) }
 {
     let [size, inodes, buffers, name, now] = words else {
         return None;
@@ -87,7 +96,8 @@ fn fits_board(volume: &Named<'_>, buffers: u32) -> bool
 
 // The words after `mkfs`.
 fn read_make(words: &[String]) -> Option<Asked<'_>>
-    ensures { option_map asked_of result ≡ make_of (map string_bytes words.now) }
+    ensures asked { option_map asked_of result ≡ make_of (map string_bytes words.now) }
+    ensures good { IfSome result IsRead }
 {
     let [word, rest @ ..] = words else {
         return None;
@@ -103,7 +113,8 @@ fn read_make(words: &[String]) -> Option<Asked<'_>>
 
 // The words after `check`.
 fn read_check(words: &[String]) -> Option<Asked<'_>>
-    ensures { option_map asked_of result ≡ check_of (map string_bytes words.now) }
+    ensures asked { option_map asked_of result ≡ check_of (map string_bytes words.now) }
+    ensures good { IfSome result IsRead }
 {
     let [word] = words else {
         return None;
@@ -128,20 +139,25 @@ fn read_loss(words: &[String]) -> Option<bool>
 
 // The words after `recover`.
 fn read_recover(words: &[String]) -> Option<Asked<'_>>
-    ensures { option_map asked_of result ≡ recover_of (map string_bytes words.now) }
+    ensures asked { option_map asked_of result ≡ recover_of (map string_bytes words.now) }
+    ensures good { IfSome result IsRead }
 {
     let [word, rest @ ..] = words else {
         return None;
     };
     let volume = read_volume(word.as_str())?;
     let accept_loss = read_loss(rest)?;
-    Some(Asked::Recover { volume, accept_loss })
+    Some(Asked::Recover {
+        volume,
+        accept_loss,
+    })
 }
 
 /// Reads the words: `mkfs VOLUME SIZE INODES BUFFERS NAME NOW`, `check VOLUME`, `recover VOLUME` or `recover VOLUME accept-loss`. A volume is a
 /// disk, or a disk and a board, cut at the last colon. A number has one to ten decimal digits and 32 bits.
 pub fn read_words(words: &[String]) -> Option<Asked<'_>>
-    ensures { option_map asked_of result ≡ asked_by (map string_bytes words.now) }
+    ensures asked { option_map asked_of result ≡ asked_by (map string_bytes words.now) }
+    ensures good { IfSome result IsRead }
 {
     let [verb, rest @ ..] = words else {
         return None;
