@@ -11,3 +11,6 @@ mod words;
 
 pub use running::tool;
 pub use telling::USAGE;
+
+#[cfg(test)]
+mod tests;
