@@ -3,6 +3,7 @@ use Rattle.v7_layout.specs.declared.inode.Inode.{Inode}
 use Rattle.v7_layout.specs.Records.{super_of}
 use Rattle.v7_map.specs.Image.{is_inode, inode_sector, sector_at}
 use Rattle.v7_map.specs.Stored.{is_current}
+use Rattle.stable.proofs.Looking.{no_look, looks_again}
 use Rattle.v7_map.proofs.Whole.{as_long}
 use Rattle.v7_map.proofs.Finding.{not_short, number-read, finds_no_inode, not_outside, inode-read, finds_stale, finds_file}
 use Rattle.v7_map.proofs.handle.find.Goals as goal
@@ -56,3 +57,24 @@ returns-clause-found g c = λ tells strong.
     c.in_ok-sector.ensures.done tells ∙ (λ z. get_or (c.in_ok-get_sector.ensures.looked.image z) (c.inode_sector_of-place.ensures z) []) in
     let read = inode-read image strong c.args.file c.in_ok-sector.sector c.inode_in-stored.result inside sector c.inode_in-stored.ensures.inode in
     finds_file image strong c.args.file inside c.read-super_block.result super _ refl sector c.inode_in-stored.result read c.with_limits-inode.ensures (search rules)
+
+pub returns-then-sectors-lt2-clause-looked : goal.returns-then-sectors-lt2-clause-looked
+returns-then-sectors-lt2-clause-looked g c = no_look g.S.Stable g.met.S.Stable.clocked c.args.store.now
+
+pub returns-then-not-has_inode-clause-looked : goal.returns-then-not-has_inode-clause-looked
+returns-then-not-has_inode-clause-looked g c = c.in_ok-get_sector.ensures.looked
+
+pub returns-then-place-sectors-clause-looked : goal.returns-then-place-sectors-clause-looked
+returns-then-place-sectors-clause-looked g c = c.in_ok-get_sector.ensures.looked
+
+pub returns-then-not-is_current-clause-looked : goal.returns-then-not-is_current-clause-looked
+returns-then-not-is_current-clause-looked g c = looks_again g.S.Stable g.met.S.Stable.clocked c.in_ok-get_sector.ensures.looked c.in_ok-sector.ensures.looked
+
+pub returns-clause-looked : goal.returns-clause-looked
+returns-clause-looked g c = looks_again g.S.Stable g.met.S.Stable.clocked c.in_ok-get_sector.ensures.looked c.in_ok-sector.ensures.looked
+
+pub returns-in_err-get_sector-clause-looked : goal.returns-in_err-get_sector-clause-looked
+returns-in_err-get_sector-clause-looked g c = c.in_err-get_sector.ensures.looked
+
+pub returns-in_err-sector-clause-looked : goal.returns-in_err-sector-clause-looked
+returns-in_err-sector-clause-looked g c = looks_again g.S.Stable g.met.S.Stable.clocked c.in_ok-get_sector.ensures.looked c.in_err-sector.ensures.looked
