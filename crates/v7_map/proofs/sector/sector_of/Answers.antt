@@ -1,5 +1,6 @@
 use Rattle.std.proofs.Common.{◌≡◌, ◌∙◌, ◌-◌, ◌*◌, sym, ap, arith, ℕ, List, length, get_or}
 use Rattle.v7_layout.specs.Numbers.{field}
+use Rattle.stable.proofs.Looking.{no_look}
 use Rattle.v7_map.specs.Frame.{listed}
 use Rattle.v7_map.specs.Stored.{address_within}
 use Rattle.v7_map.proofs.SectorOf.{sector_in-direct, sector_in-single, sector_in-no_single, sector_in-past, listed-some}
@@ -32,3 +33,32 @@ returns-clause-found g c tells =
 
 pub returns-then-index-clause-found : goal.returns-then-index-clause-found
 returns-then-index-clause-found g c tells = sym (sector_in-past (g.S.Stable.image c.args.store.now) c.args.inode.now c.args.index (omega arith))
+
+pub returns-then-index-lt-DIRECT-clause-looked : goal.returns-then-index-lt-DIRECT-clause-looked
+returns-then-index-lt-DIRECT-clause-looked g c = no_look g.S.Stable g.met.S.Stable.clocked c.args.store.now
+
+pub returns-then-index-clause-looked : goal.returns-then-index-clause-looked
+returns-then-index-clause-looked g c = no_look g.S.Stable g.met.S.Stable.clocked c.args.store.now
+
+pub returns-then-block-eq0-clause-looked : goal.returns-then-block-eq0-clause-looked
+returns-then-block-eq0-clause-looked g c = no_look g.S.Stable g.met.S.Stable.clocked c.args.store.now
+
+pub returns-in_err-get-clause-looked : goal.returns-in_err-get-clause-looked
+returns-in_err-get-clause-looked g c = record {
+  image = c.in_err-get.ensures.image;
+  crash = c.in_err-get.ensures.crash;
+  opens = c.in_err-get.ensures.opens;
+  later = c.in_err-get.ensures.cause.later;
+  sectors = c.in_err-get.ensures.sectors;
+  snapshot = c.in_err-get.ensures.snapshot;
+}
+
+pub returns-clause-looked : goal.returns-clause-looked
+returns-clause-looked g c = record {
+  image = c.in_ok-get.ensures.image;
+  crash = c.in_ok-get.ensures.crash;
+  opens = c.in_ok-get.ensures.opens;
+  later = c.in_ok-get.ensures.cause.later;
+  sectors = c.in_ok-get.ensures.sectors;
+  snapshot = c.in_ok-get.ensures.snapshot;
+}
