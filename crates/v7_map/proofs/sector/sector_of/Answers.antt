@@ -1,9 +1,9 @@
-use Rattle.std.proofs.Common.{◌≡◌, ◌∙◌, ◌-◌, ◌*◌, sym, ap, arith, ℕ, List, length, get_or}
+use Rattle.std.proofs.Common.{◌≡◌, ◌∙◌, ◌-◌, ◌*◌, refl, sym, ap, arith, ℕ, List, length, get_or}
 use Rattle.v7_layout.specs.Numbers.{field}
 use Rattle.stable.proofs.Looking.{no_look}
 use Rattle.v7_map.specs.Frame.{listed}
 use Rattle.v7_map.specs.Stored.{address_within}
-use Rattle.v7_map.proofs.SectorOf.{sector_in-direct, sector_in-single, sector_in-no_single, sector_in-past, listed-some}
+use Rattle.v7_map.proofs.SectorOf.{sector_in-direct, sector_in-single, sector_in-no_single, sector_in-past, listed-some, within-found}
 use Rattle.v7_map.proofs.Whole.{as_long}
 use Rattle.v7_map.proofs.sector.sector_of.Goals as goal
 
@@ -62,3 +62,15 @@ returns-clause-looked g c = record {
   sectors = c.in_ok-get.ensures.sectors;
   snapshot = c.in_ok-get.ensures.snapshot;
 }
+
+pub returns-then-index-lt-DIRECT-clause-within : goal.returns-then-index-lt-DIRECT-clause-within
+returns-then-index-lt-DIRECT-clause-within g c = λ some. within-found _ c.within.ensures c.sectors-sectors.ensures some
+
+pub returns-clause-within : goal.returns-clause-within
+returns-clause-within g c = λ some. within-found _ c.within-2.ensures c.sectors-sectors.ensures some
+
+pub returns-then-index-clause-within : goal.returns-then-index-clause-within
+returns-then-index-clause-within g c = λ some. absurd (some refl)
+
+pub returns-then-block-eq0-clause-within : goal.returns-then-block-eq0-clause-within
+returns-then-block-eq0-clause-within g c = λ some. absurd (some refl)
