@@ -1,4 +1,4 @@
-use Rattle.std.proofs.Common.{◌≡◌, ap, ◌∙◌}
+use Rattle.std.proofs.Common.{◌≡◌, ◌<◌, sym, ap, subst, ◌∙◌}
 use Rattle.files_model.specs.Files.{clipped}
 use Rattle.stable.proofs.Looking.{looks_again}
 use Rattle.v7_map.specs.Stored.{sector_in}
@@ -21,3 +21,12 @@ returns-in_err-bytes-clause-looked g c = looks_again g.S.Stable g.met.S.Stable.c
 
 pub returns-clause-looked : goal.returns-clause-looked
 returns-clause-looked g c = looks_again g.S.Stable g.met.S.Stable.clocked c.in_ok-address.ensures.looked c.in_ok-bytes.ensures.looked
+
+pub returns-clause-address : goal.returns-clause-address
+returns-clause-address g c = λ tells. c.in_ok-address.ensures.found tells
+
+pub returns-clause-within : goal.returns-clause-within
+returns-clause-within g c = c.in_ok-address.ensures.within
+
+pub sector_or_hole-requires : goal.sector_or_hole-requires
+sector_or_hole-requires g c = λ some. subst (λ n. c.in_ok-address.address < n) (sym c.in_ok-address.ensures.looked.sectors) (c.in_ok-address.ensures.within some)
