@@ -74,3 +74,6 @@ returns-then-index-clause-within g c = λ some. absurd (some refl)
 
 pub returns-then-block-eq0-clause-within : goal.returns-then-block-eq0-clause-within
 returns-then-block-eq0-clause-within g c = λ some. absurd (some refl)
+
+pub get-requires : goal.get-requires
+get-requires g c = within-found _ c.within-block.ensures c.sectors-sectors.ensures c.if-block-eq0.false
