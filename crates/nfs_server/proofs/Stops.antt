@@ -1,5 +1,5 @@
 -- How a volume on a store was started and stopped, one run after another.
-use Rattle.std.proofs.Common.{arith, ◌≡◌, ◌≢◌, ◌⊎◌, inl, inr, ◌∙◌, ℕ, ◌≤◌, Bool, true, false, List, [], ◌∷◌, refl, sym, ap, subst}
+use Rattle.std.proofs.Common.{arith, ◌≡◌, ◌≢◌, inl, inr, ◌∙◌, ℕ, Bool, true, false, List, [], ◌∷◌, refl, sym, ap}
 use Rattle.stable.specs.Counts.{RoseBy, Rose}
 use Rattle.stable.specs.States.{StaysOrFails}
 use Rattle.stable.specs.Store.{Image}
@@ -12,7 +12,7 @@ use Rattle.v7_damage.specs.declared.damage.RepairFault.TheVariants as repair
 use Rattle.volume.specs.Keeps.{MayOpen}
 use Rattle.volume.specs.Opens.{Refuses, name_in}
 use Rattle.nfs_server.specs.Course.{Course, Start, Stop, Usage, NoRig, NoUnit, NoVolume, NoPost, Ran}
-use Rattle.nfs_server.specs.Run.{IsRun, IsRefusedAs, IsServedAs, RunsAs, OpensAs, EachPair}
+use Rattle.nfs_server.specs.Run.{IsRun, IsRefusedAs, RunsAs, OpensAs, EachPair}
 use Rattle.nfs_server.specs.Stopped.{StopsAs}
 use Rattle.nfs_server.specs.declared.starting.Recovery.{Recovery}
 
