@@ -2,7 +2,6 @@ pub mod Accounts
 pub mod Reactions
 pub mod Counts
 pub mod Lists
-pub mod Meanings
 pub mod OneHold
 pub mod Resting
 pub mod Tendings

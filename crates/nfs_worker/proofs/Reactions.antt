@@ -10,8 +10,9 @@ use Rattle.rig.specs.Links.{gains, Takes}
 use Rattle.rig.specs.Links.Heard.{Datagram}
 use Rattle.rig.specs.declared.link.Event.TheVariants as event
 use Rattle.rig.specs.declared.link.Link.{Ghosts as LinkGhosts}
-use Rattle.nfs2_wire.specs.Meaning.{Meaning, meaning}
-use Rattle.nfs2_wire.specs.Meaning.Meaning.{NoMeaning, Outside, Asks}
+use Rattle.datagrams.specs.declared.datagram.Datagram.{Datagram as Meaning}
+use Rattle.datagrams.specs.declared.datagram.Datagram.TheVariants.{NoMeaning, Outside, Asks}
+use Rattle.datagrams.specs.Meaning.{meaning}
 use Rattle.nfs_worker.specs.Account.{Hold, Grew, history}
 use Rattle.nfs_worker.specs.Answers.{Answers, Comes, IsOwn, Replied}
 use Rattle.nfs_worker.specs.Served.{Releases}

@@ -12,8 +12,8 @@ use Rattle.rig.specs.declared.link.Link.{Ghosts as LinkGhosts}
 use Rattle.rig.specs.Links.Heard.{Datagram, Idle, Closed, Failed}
 use Rattle.rig.specs.declared.link.Event.{Event}
 use Rattle.rig.specs.declared.link.Event.TheVariants as event
-use Rattle.nfs2_wire.specs.Meaning.{meaning}
-use Rattle.nfs2_wire.specs.Meaning.Meaning.{Outside}
+use Rattle.datagrams.specs.declared.datagram.Datagram.TheVariants.{Outside}
+use Rattle.datagrams.specs.Meaning.{meaning}
 use Rattle.nfs_worker.specs.Account.{Hold, history, Grew}
 use Rattle.nfs_worker.specs.Tending.{IsTended, is_new}
 use Rattle.nfs_worker.specs.Turns.{Says, EventTurn, Counts, Turned, IsAsked, TurnsTaken, Worked, EndsBy, datagrams}

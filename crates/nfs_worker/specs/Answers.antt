@@ -5,8 +5,8 @@ use Rattle.files_model.specs.declared.address.Address.{Address}
 use Rattle.files_model.specs.History.{Event, Item, items_of, time_of}
 use Rattle.stable.specs.declared.store.Stable.{Ghosts}
 use Rattle.rig.specs.declared.link.Link.{Ghosts as LinkGhosts}
-use Rattle.nfs2_wire.specs.Meaning.{meaning}
-use Rattle.nfs2_wire.specs.Meaning.Meaning.{NoMeaning, Outside}
+use Rattle.datagrams.specs.declared.datagram.Datagram.TheVariants.{NoMeaning, Outside}
+use Rattle.datagrams.specs.Meaning.{meaning}
 use Rattle.nfs_worker.specs.Account.{Hold, Grew, history}
 use Rattle.nfs_worker.specs.Served.{Releases}
 use Rattle.nfs_worker.specs.Turns.{turn_of}

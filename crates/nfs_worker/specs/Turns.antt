@@ -12,8 +12,8 @@ use Rattle.rig.specs.declared.link.Event.{Event}
 use Rattle.rig.specs.declared.link.Event.TheVariants as event
 use Rattle.rig.specs.declared.link.Link.{Ghosts as LinkGhosts}
 use Rattle.rig.specs.Links.Heard.{Datagram, Idle, Closed, Failed}
-use Rattle.nfs2_wire.specs.Meaning.{meaning}
-use Rattle.nfs2_wire.specs.Meaning.Meaning.{NoMeaning}
+use Rattle.datagrams.specs.declared.datagram.Datagram.TheVariants.{NoMeaning}
+use Rattle.datagrams.specs.Meaning.{meaning}
 use Rattle.nfs_worker.specs.Account.{Hold, Grew, history}
 use Rattle.nfs_worker.specs.Worker.{Own, owned, request_in, requests_of, worker_of, Works}
 use Rattle.nfs_worker.specs.declared.pass.Numbers.{Numbers}

@@ -8,8 +8,9 @@ use Rattle.files_model.specs.History.Event.{Done, Failed as Failing, Cut}
 use Rattle.rig.specs.Links.{Heard, Takes}
 use Rattle.rig.specs.declared.link.Link.{Ghosts}
 use Rattle.rig.specs.Links.Heard.{Datagram, Idle, Closed, Failed}
-use Rattle.nfs2_wire.specs.Meaning.{Meaning, meaning}
-use Rattle.nfs2_wire.specs.Meaning.Meaning.{NoMeaning, Outside, Asks}
+use Rattle.datagrams.specs.declared.datagram.Datagram.{Datagram as Meaning}
+use Rattle.datagrams.specs.declared.datagram.Datagram.TheVariants.{NoMeaning, Outside, Asks}
+use Rattle.datagrams.specs.Meaning.{meaning}
 use Rattle.nfs2_wire.specs.Replies.{bytes_of}
 use Rattle.rig.specs.Offers.{LeavesOut, Offers}
 

@@ -10,7 +10,7 @@ use crate::cells::Cells;
 use crate::releasing::Ready;
 use crate::serving::{Served, serve_call};
 use crate::turning::DropCause;
-use nfs2_wire::{Datagram, read_datagram, stale_reply};
+use datagrams::{Datagram, read_datagram};
 use rig::Address;
 use stable::Tended;
 use xdr_rpc::ShortReply;
@@ -49,7 +49,7 @@ pub fn answer<S: Tended>(
     };
     match datagram {
         Datagram::NoMeaning => Reaction::Dropped(DropCause::NoMeaning),
-        Datagram::Stale { xid } => Reaction::Outside(stale_reply(xid)),
+        Datagram::Outside(reply) => Reaction::Outside(reply),
         Datagram::Asks {
             xid,
             volume: _volume,

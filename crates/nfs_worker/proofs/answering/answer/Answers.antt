@@ -1,10 +1,10 @@
 use Rattle.std.proofs.Common.{◌≡◌, refl, sym, ap, ◌∙◌, [], ◌∷◌}
-use Rattle.nfs2_wire.specs.Meaning.{meaning, means, stale}
-use Rattle.nfs2_wire.specs.Meaning.Meaning.{NoMeaning, Outside, Asks}
+use Rattle.datagrams.specs.declared.datagram.Datagram.TheVariants.{NoMeaning, Outside, Asks}
+use Rattle.datagrams.specs.Meaning.{meaning}
+use Rattle.datagrams.proofs.Open.{asks_open, asks_first}
 use Rattle.volume.specs.Mounted.{store_of}
 use Rattle.nfs_worker.specs.Worker.{request_of}
 use Rattle.nfs_worker.proofs.Accounts.{grew_none}
-use Rattle.nfs_worker.proofs.Meanings.{asks_open, asks_first}
 use Rattle.nfs_worker.proofs.Resting.{stays_so}
 use Rattle.nfs_worker.proofs.answering.answer.Goals as goal
 
@@ -13,22 +13,22 @@ returns-in-Err-clause-answers g c = record { holds = []; grows = grew_none g.S.S
 
 pub returns-in-NoMeaning-clause-answers : goal.returns-in-NoMeaning-clause-answers
 returns-in-NoMeaning-clause-answers g c =
-    let none : meaning c.args.bytes.now 1 ≡ NoMeaning = sym c.in-Ok.ensures.ok ∙ ap means c.in-NoMeaning.is in
+    let none : meaning c.args.bytes.now 1 ≡ NoMeaning = sym c.in-Ok.ensures.ok ∙ c.in-NoMeaning.is in
     record { holds = []; grows = grew_none g.S.Stable g.met.S.Stable.clocked (store_of c.args.cells.now.volume); comes = (refl, none); mine = tt; timed = tt }
 
-pub returns-in-Stale-clause-answers : goal.returns-in-Stale-clause-answers
-returns-in-Stale-clause-answers g c =
-    let is : stale c.in-Stale.xid ≡ meaning c.args.bytes.now 1 = sym (ap means c.in-Stale.is) ∙ c.in-Ok.ensures.ok in
-    record { holds = []; grows = grew_none g.S.Stable g.met.S.Stable.clocked (store_of c.args.cells.now.volume); comes = (refl, sym is ∙ ap Outside (sym c.stale_reply.ensures)); mine = tt; timed = tt }
+pub returns-in-Outside-clause-answers : goal.returns-in-Outside-clause-answers
+returns-in-Outside-clause-answers g c =
+    let is : meaning c.args.bytes.now 1 ≡ Outside c.in-Outside.reply = sym c.in-Ok.ensures.ok ∙ c.in-Outside.is in
+    record { holds = []; grows = grew_none g.S.Stable g.met.S.Stable.clocked (store_of c.args.cells.now.volume); comes = (refl, is); mine = tt; timed = tt }
 
 pub serve_call-requires-clause-row : goal.serve_call-requires-clause-row
 serve_call-requires-clause-row g c =
-    let is : Asks c.in-Asks.xid _ c.in-Asks.cred c.in-Asks.call ≡ meaning c.args.bytes.now 1 = sym (ap means c.in-Asks.is) ∙ c.in-Ok.ensures.ok in
+    let is : Asks c.in-Asks.xid _ c.in-Asks.cred c.in-Asks.call ≡ meaning c.args.bytes.now 1 = sym c.in-Asks.is ∙ c.in-Ok.ensures.ok in
     (asks_open c.args.bytes.now 1 c.in-Asks.xid _ c.in-Asks.cred c.in-Asks.call is).row
 
 pub returns-clause-answers : goal.returns-clause-answers
 returns-clause-answers g c =
-    let is : Asks c.in-Asks.xid _ c.in-Asks.cred c.in-Asks.call ≡ meaning c.args.bytes.now 1 = sym (ap means c.in-Asks.is) ∙ c.in-Ok.ensures.ok in
+    let is : Asks c.in-Asks.xid _ c.in-Asks.cred c.in-Asks.call ≡ meaning c.args.bytes.now 1 = sym c.in-Asks.is ∙ c.in-Ok.ensures.ok in
     let first = asks_first c.args.bytes.now c.in-Asks.xid _ c.in-Asks.cred c.in-Asks.call is in
     let served = c.in-Ready.ensures.served in
     record {
@@ -45,5 +45,5 @@ returns-in-Err-clause-rest g c = stays_so g.S.Stable c.args.cells.now.volume c.r
 pub returns-in-NoMeaning-clause-rest : goal.returns-in-NoMeaning-clause-rest
 returns-in-NoMeaning-clause-rest g c = stays_so g.S.Stable c.args.cells.now.volume c.requires.rest
 
-pub returns-in-Stale-clause-rest : goal.returns-in-Stale-clause-rest
-returns-in-Stale-clause-rest g c = stays_so g.S.Stable c.args.cells.now.volume c.requires.rest
+pub returns-in-Outside-clause-rest : goal.returns-in-Outside-clause-rest
+returns-in-Outside-clause-rest g c = stays_so g.S.Stable c.args.cells.now.volume c.requires.rest

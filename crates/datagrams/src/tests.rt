@@ -1,0 +1,3 @@
+//! Datagrams, as docs/FORMATS.md has them.
+
+use super::*;
