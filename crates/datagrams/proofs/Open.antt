@@ -22,8 +22,13 @@ use Rattle.nfs2_wire.specs.Arguments.{getattr_args, read_args, write_args}
 use Rattle.nfs2_wire.specs.Shapes.{set_args, name_args, new_args, rename_args, link_args, symlink_args, part_args}
 use Rattle.nfs2_wire.specs.Handles.{handle, of_open, second}
 use Rattle.datagrams.specs.declared.datagram.Datagram.{Datagram}
-use Rattle.datagrams.specs.declared.datagram.Datagram.TheVariants.{NoMeaning, Outside, Asks}
-use Rattle.datagrams.specs.Meaning.{asked_on, nfs_meaning, asked, meaning_of, meaning}
+use Rattle.stable.specs.declared.command.Command.{Command as Asked}
+use Rattle.presto_rpc.specs.declared.control.Control.{Control}
+use Rattle.presto_rpc.specs.declared.control.Control.TheVariants as asks
+use Rattle.presto_rpc.specs.Controls.{control}
+use Rattle.presto_rpc.specs.Replies.{answer_bytes}
+use Rattle.datagrams.specs.declared.datagram.Datagram.TheVariants.{NoMeaning, Outside, Asks, Mount, Command, Status, Halt}
+use Rattle.datagrams.specs.Meaning.{asked_on, nfs_meaning, control_meaning, asked, meaning_of, meaning}
 
 abbrev IsOpenResult : ℕ → Result VolumeCall Unread → Type 0
 IsOpenResult volumes (Ok asked) = asked.volume < volumes
@@ -44,6 +49,10 @@ abbrev IsOpenMeaning : ℕ → Datagram → Type 0
 IsOpenMeaning volumes NoMeaning = Unit {0}
 IsOpenMeaning volumes (Outside reply) = Unit {0}
 IsOpenMeaning volumes (Asks xid volume cred c) = IsOpenCall volumes volume c
+IsOpenMeaning volumes (Mount rpc) = Unit {0}
+IsOpenMeaning volumes (Command xid volume command) = volume < volumes
+IsOpenMeaning volumes (Status xid volume) = volume < volumes
+IsOpenMeaning volumes (Halt xid) = Unit {0}
 
 -- ---- one procedure
 
@@ -104,26 +113,57 @@ open_nfs volumes rpc read.Stale h = tt
 open_nfs volumes rpc read.Void h = tt
 open_nfs volumes rpc read.Garbage h = tt
 
-open_program : (volumes : ℕ) (b : Bool) (d : Datagram) → IsOpenMeaning volumes d → IsOpenMeaning volumes (cond b d NoMeaning)
-open_program volumes true d h = h
-open_program volumes false d h = tt
+-- a control of an open volume
+open_control_on : (volumes volume : ℕ) (d : Datagram) (reply : List ℕ) (b : Bool) → ltb volume volumes ≡ b → (volume < volumes → IsOpenMeaning volumes d) → IsOpenMeaning volumes (cond b d (Outside reply))
+open_control_on volumes volume d reply true lt h = h (ltb-true volume volumes lt)
+open_control_on volumes volume d reply false ge h = tt
+
+open_control : (volumes xid : ℕ) (c : Control) → IsOpenMeaning volumes (control_meaning xid c volumes)
+open_control volumes xid (asks.Command volume command) = open_control_on volumes volume (Command xid volume command) (answer_bytes xid 4 0) (ltb volume volumes) refl (λ lt. lt)
+open_control volumes xid (asks.Status volume) = open_control_on volumes volume (Status xid volume) (answer_bytes xid 4 0) (ltb volume volumes) refl (λ lt. lt)
+open_control volumes xid asks.Halt = tt
+open_control volumes xid asks.Void = tt
+open_control volumes xid asks.TooWeak = tt
+open_control volumes xid asks.Garbage = tt
+
+one_of : (volumes : ℕ) (b : Bool) (d e : Datagram) → IsOpenMeaning volumes d → IsOpenMeaning volumes e → IsOpenMeaning volumes (cond b d e)
+one_of volumes true d e p q = p
+one_of volumes false d e p q = q
 
 open_asked : (volumes : ℕ) (rpc : RpcCall) → IsOpenMeaning volumes (asked rpc volumes)
 unfolding asked
-open_asked volumes rpc = open_program volumes (eqb rpc.program 100003) _ (open_nfs volumes rpc _ (open_read rpc.procedure rpc.args volumes))
+open_asked volumes rpc =
+    one_of volumes (eqb rpc.program 100003) _ _ (open_nfs volumes rpc _ (open_read rpc.procedure rpc.args volumes))
+    (one_of volumes (eqb rpc.program 100005) (Mount rpc) _ tt (open_control volumes rpc.xid (control rpc)))
 
 open_of : (volumes : ℕ) (t : Test RpcCall) → IsOpenMeaning volumes (meaning_of t volumes)
 open_of volumes (Ok rpc) = open_asked volumes rpc
 open_of volumes (Err NoReply) = tt
 open_of volumes (Err (Refused xid cause)) = tt
 
-pub asks_open : (bytes : List ℕ) (volumes xid volume : ℕ) (cred : Cred) (c : Call) → Asks xid volume cred c ≡ meaning bytes volumes → IsOpenCall volumes volume c
+open_meaning : (bytes : List ℕ) (volumes : ℕ) (d : Datagram) → d ≡ meaning bytes volumes → IsOpenMeaning volumes d
 unfolding meaning
-asks_open bytes volumes xid volume cred c is = subst (λ (m : Datagram). IsOpenMeaning volumes m) (sym is) (open_of volumes (call_of bytes))
+open_meaning bytes volumes d is = subst (λ (m : Datagram). IsOpenMeaning volumes m) (sym is) (open_of volumes (call_of bytes))
 
--- where one volume is open it is volume 0
+pub asks_open : (bytes : List ℕ) (volumes xid volume : ℕ) (cred : Cred) (c : Call) → Asks xid volume cred c ≡ meaning bytes volumes → IsOpenCall volumes volume c
+asks_open bytes volumes xid volume cred c is = open_meaning bytes volumes (Asks xid volume cred c) is
+
+-- ---- where one volume is open it is volume 0
+
 pub asks_first : (bytes : List ℕ) (xid volume : ℕ) (cred : Cred) (c : Call) → Asks xid volume cred c ≡ meaning bytes 1 → Asks xid 0 cred c ≡ meaning bytes 1
 asks_first bytes xid volume cred c is =
     let below = (asks_open bytes 1 xid volume cred c is).open_volume in
     let first : 0 ≡ volume = omega (arith, below) in
     ap (λ v. Asks xid v cred c) first ∙ is
+
+pub command_first : (bytes : List ℕ) (xid volume : ℕ) (command : Asked) → Command xid volume command ≡ meaning bytes 1 → Command xid 0 command ≡ meaning bytes 1
+command_first bytes xid volume command is =
+    let below : volume < 1 = open_meaning bytes 1 (Command xid volume command) is in
+    let first : 0 ≡ volume = omega (arith, below) in
+    ap (λ v. Command xid v command) first ∙ is
+
+pub status_first : (bytes : List ℕ) (xid volume : ℕ) → Status xid volume ≡ meaning bytes 1 → Status xid 0 ≡ meaning bytes 1
+status_first bytes xid volume is =
+    let below : volume < 1 = open_meaning bytes 1 (Status xid volume) is in
+    let first : 0 ≡ volume = omega (arith, below) in
+    ap (λ v. Status xid v) first ∙ is

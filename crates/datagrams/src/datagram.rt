@@ -5,28 +5,53 @@ ghost use Rattle.files_model.specs.Step.{has_row};
 ghost use Rattle.xdr_rpc.specs.declared.call.RpcCall.{RpcCall};
 ghost use Rattle.xdr_rpc.specs.Order.{call_of};
 ghost use Rattle.xdr_rpc.specs.Sending.{sent_as};
-ghost use Rattle.datagrams.specs.Meaning.{asked_on, nfs_meaning, asked, meaning};
+ghost use Rattle.presto_rpc.specs.Controls.{control};
+ghost use Rattle.datagrams.specs.Meaning.{asked_on, nfs_meaning, on_open, control_meaning, asked, meaning};
 ghost use Rattle.datagrams.specs.Sending.{Sends};
 
 use files_model::{Call, Cred, NoMemory};
 use nfs2_wire::{NfsCall, read_arguments, stale_reply};
+use presto_rpc::{Control, read_control, write_answer};
+use stable::Command;
 use std::alloc::Global;
-use xdr_rpc::{RpcCall, RpcRead, ShortReply, garbage_reply, read_rpc, void_reply};
+use xdr_rpc::{
+    RpcCall, RpcRead, ShortReply, garbage_reply, read_rpc, too_weak_reply, void_reply,
+};
 
-/// The program of NFS (RFC 1094 appendix).
+/// The programs of NFS and of MOUNT (RFC 1094 2.1 and appendix A.3).
 const NFS_PROGRAM: u32 = 100003;
 
-/// What a datagram means: nothing; what is answered by these bytes and belongs to no history; or a call on a volume, which has a row of the step.
+const MOUNT_PROGRAM: u32 = 100005;
+
+/// The code of a volume that isn't open (docs/FORMATS.md, "Control program").
+const NO_VOLUME: u32 = 4;
+
+/// What a datagram means. Volumes are those that are open.
 #[derive(Drop)]
 pub enum Datagram {
+    /// Nothing that is answered.
     NoMeaning,
+    /// It is answered by these bytes, whatever the server has done, and belongs to no history.
     Outside(ShortReply),
+    /// A call on a volume, which has a row of the step.
     Asks {
         xid: u32,
         volume: u32,
         cred: Cred,
         call: Call,
     },
+    /// A call of MOUNT.
+    Mount(RpcCall),
+    /// A command to the store of a volume, by user 0.
+    Command {
+        xid: u32,
+        volume: u32,
+        command: Command,
+    },
+    /// The status of the store of a volume is asked for.
+    Status { xid: u32, volume: u32 },
+    /// The server is to end, by user 0.
+    Halt { xid: u32 },
 }
 
 // Whether the step has a row for it.
@@ -65,15 +90,50 @@ fn nfs_datagram(rpc: RpcCall, read: NfsCall) -> Datagram
     }
 }
 
+fn on_open(xid: u32, volume: u32, volumes: u32, asked: Datagram) -> Datagram
+    ensures { result ≡ on_open xid volume volumes asked }
+{
+    if volume < volumes {
+        asked
+    } else {
+        Datagram::Outside(write_answer(xid, NO_VOLUME, 0))
+    }
+}
+
+fn control_datagram(xid: u32, control: Control, volumes: u32) -> Datagram
+    ensures { result ≡ control_meaning xid control volumes }
+{
+    match control {
+        Control::Command { volume, command } => {
+            let asked = Datagram::Command {
+                xid,
+                volume,
+                command,
+            };
+            on_open(xid, volume, volumes, asked)
+        }
+        Control::Status { volume } => {
+            on_open(xid, volume, volumes, Datagram::Status { xid, volume })
+        }
+        Control::Halt => Datagram::Halt { xid },
+        Control::Void => Datagram::Outside(void_reply(xid)),
+        Control::TooWeak => Datagram::Outside(too_weak_reply(xid)),
+        Control::Garbage => Datagram::Outside(garbage_reply(xid)),
+    }
+}
+
 #[tactic(auto, unfolding(crate::specs::Meaning::asked))]
 fn datagram_of(alloc: Global, rpc: RpcCall, volumes: u32) -> Result<Datagram, NoMemory>
     ensures { IfOk result (λ datagram. datagram ≡ asked rpc volumes) }
 {
-    if rpc.program != NFS_PROGRAM {
-        return Ok(Datagram::NoMeaning);
+    match rpc.program {
+        NFS_PROGRAM => {
+            let read = read_arguments(alloc, &rpc, volumes)?;
+            Ok(nfs_datagram(rpc, read))
+        }
+        MOUNT_PROGRAM => Ok(Datagram::Mount(rpc)),
+        _ => Ok(control_datagram(rpc.xid, read_control(&rpc), volumes)),
     }
-    let read = read_arguments(alloc, &rpc, volumes)?;
-    Ok(nfs_datagram(rpc, read))
 }
 
 #[tactic(auto, unfolding(crate::specs::Meaning::meaning))]
