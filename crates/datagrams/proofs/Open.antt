@@ -22,7 +22,6 @@ use Rattle.nfs2_wire.specs.Arguments.{getattr_args, read_args, write_args}
 use Rattle.nfs2_wire.specs.Shapes.{set_args, name_args, new_args, rename_args, link_args, symlink_args, part_args}
 use Rattle.nfs2_wire.specs.Handles.{handle, of_open, second}
 use Rattle.datagrams.specs.declared.datagram.Datagram.{Datagram}
-use Rattle.stable.specs.declared.command.Command.{Command as Asked}
 use Rattle.presto_rpc.specs.declared.control.Control.{Control}
 use Rattle.presto_rpc.specs.declared.control.Control.TheVariants as asks
 use Rattle.presto_rpc.specs.Controls.{control}
@@ -45,7 +44,7 @@ pub record IsOpenCall (volumes volume : ℕ) (c : Call) : Type 0 where
   pub row : has_row c ≡ true
   pub open_volume : volume < volumes
 
-abbrev IsOpenMeaning : ℕ → Datagram → Type 0
+abbrev pub IsOpenMeaning : ℕ → Datagram → Type 0
 IsOpenMeaning volumes NoMeaning = Unit {0}
 IsOpenMeaning volumes (Outside reply) = Unit {0}
 IsOpenMeaning volumes (Asks xid volume cred c) = IsOpenCall volumes volume c
@@ -141,29 +140,6 @@ open_of volumes (Ok rpc) = open_asked volumes rpc
 open_of volumes (Err NoReply) = tt
 open_of volumes (Err (Refused xid cause)) = tt
 
-open_meaning : (bytes : List ℕ) (volumes : ℕ) (d : Datagram) → d ≡ meaning bytes volumes → IsOpenMeaning volumes d
+pub open_meaning : (bytes : List ℕ) (volumes : ℕ) (d : Datagram) → d ≡ meaning bytes volumes → IsOpenMeaning volumes d
 unfolding meaning
 open_meaning bytes volumes d is = subst (λ (m : Datagram). IsOpenMeaning volumes m) (sym is) (open_of volumes (call_of bytes))
-
-pub asks_open : (bytes : List ℕ) (volumes xid volume : ℕ) (cred : Cred) (c : Call) → Asks xid volume cred c ≡ meaning bytes volumes → IsOpenCall volumes volume c
-asks_open bytes volumes xid volume cred c is = open_meaning bytes volumes (Asks xid volume cred c) is
-
--- ---- where one volume is open it is volume 0
-
-pub asks_first : (bytes : List ℕ) (xid volume : ℕ) (cred : Cred) (c : Call) → Asks xid volume cred c ≡ meaning bytes 1 → Asks xid 0 cred c ≡ meaning bytes 1
-asks_first bytes xid volume cred c is =
-    let below = (asks_open bytes 1 xid volume cred c is).open_volume in
-    let first : 0 ≡ volume = omega (arith, below) in
-    ap (λ v. Asks xid v cred c) first ∙ is
-
-pub command_first : (bytes : List ℕ) (xid volume : ℕ) (command : Asked) → Command xid volume command ≡ meaning bytes 1 → Command xid 0 command ≡ meaning bytes 1
-command_first bytes xid volume command is =
-    let below : volume < 1 = open_meaning bytes 1 (Command xid volume command) is in
-    let first : 0 ≡ volume = omega (arith, below) in
-    ap (λ v. Command xid v command) first ∙ is
-
-pub status_first : (bytes : List ℕ) (xid volume : ℕ) → Status xid volume ≡ meaning bytes 1 → Status xid 0 ≡ meaning bytes 1
-status_first bytes xid volume is =
-    let below : volume < 1 = open_meaning bytes 1 (Status xid volume) is in
-    let first : 0 ≡ volume = omega (arith, below) in
-    ap (λ v. Status xid v) first ∙ is

@@ -1,6 +1,8 @@
 pub mod Accounts
 pub mod Reactions
 pub mod Counts
+pub mod Desks
+pub mod Firsts
 pub mod Lists
 pub mod OneHold
 pub mod Resting
