@@ -1,40 +1,20 @@
 -- How a volume on a store was started and stopped, one run after another.
 use Rattle.std.proofs.Common.{arith, ◌≡◌, ◌≢◌, ◌⊎◌, inl, inr, ◌∙◌, ℕ, ◌≤◌, Bool, true, false, List, [], ◌∷◌, refl, sym, ap, subst}
-use Rattle.index_sets.specs.Free.{count_free}
 use Rattle.stable.specs.Counts.{RoseBy, Rose}
 use Rattle.stable.specs.States.{StaysOrFails}
 use Rattle.stable.specs.Store.{Image}
 use Rattle.stable.specs.declared.state.State.TheVariants.{Up}
 use Rattle.stable.specs.declared.store.Stable.{Ghosts}
-use Rattle.v7_layout.specs.declared.super_block.Super.{Super}
-use Rattle.v7_map.specs.Frame.{Frame, frame}
-use Rattle.v7_map.specs.Weak.{IsWeak, IsStrong}
+use Rattle.v7_map.specs.Frame.{frame}
+use Rattle.v7_map.specs.Weak.{IsWeak}
 use Rattle.v7_damage.specs.declared.damage.RepairFault.{RepairFault}
 use Rattle.v7_damage.specs.declared.damage.RepairFault.TheVariants as repair
-use Rattle.v7_make.specs.Chains.{IsChained}
-use Rattle.v7_sets.specs.Sets.{AreSetsOf}
 use Rattle.volume.specs.Keeps.{MayOpen}
 use Rattle.volume.specs.Opens.{Refuses, name_in}
-use Rattle.volume.proofs.Resting.{sets_stay}
 use Rattle.nfs_server.specs.Course.{Course, Start, Stop, Usage, NoRig, NoUnit, NoVolume, NoPost, Ran}
 use Rattle.nfs_server.specs.Run.{IsRun, IsRefusedAs, IsServedAs, RunsAs, OpensAs, EachPair}
-use Rattle.nfs_server.specs.Stopped.{IsStoppedCleanly, StopsAs}
+use Rattle.nfs_server.specs.Stopped.{StopsAs}
 use Rattle.nfs_server.specs.declared.starting.Recovery.{Recovery}
-
--- the chain was written of a volume with nothing to mend
-pub stopped_cleanly : (old new : Image) (blocks inodes : List Bool) (now : ℕ) → IsStrong (frame old) → AreSetsOf old blocks inodes → IsChained old new blocks inodes now → IsStoppedCleanly new
-stopped_cleanly old new blocks inodes now strong sets chained = record {
-  strong = subst (λ (f : Frame). IsStrong f) (sym chained.keeps.frame) strong;
-  clean = ap (λ (s : Super). s.s_fmod) chained.stopped;
-  blocks = blocks;
-  inodes = inodes;
-  sets = sets_stay old new blocks inodes chained.keeps.frame (ap (λ files. files.generations) chained.keeps.view) sets;
-  takes = chained.takes;
-  places = chained.places;
-  listed = chained.listed;
-  free_blocks = ap (λ (s : Super). s.s_tfree) chained.stopped;
-  free_inodes = ap (λ (s : Super). s.s_tinode) chained.stopped;
-}
 
 -- the opening keeps the volume's name
 pub name_stays : (old new : Image) → MayOpen old new → name_in new ≡ name_in old

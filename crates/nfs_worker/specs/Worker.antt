@@ -1,7 +1,6 @@
 -- The account of a worker: what it took from its link, the events of its holds, and what the link took from it.
-use Rattle.std.specs.Prelude.{◌≡◌, ℕ, ◌-◌, List, [], ◌∷◌, ◌++◌, length, map, Option, Some, None}
+use Rattle.std.specs.Prelude.{◌≡◌, ℕ, List, [], ◌∷◌, map, Option, Some, None}
 use Rattle.std.specs.List.{flat_map, filter_map, AllByRecursion}
-use Rattle.std.specs.Option.{option_map}
 use Rattle.files_model.specs.declared.address.Address.{Address}
 use Rattle.files_model.specs.History.{Event, Item, items_of, answers_of}
 use Rattle.files_model.specs.History.Event.{Done, Failed as Failing, Cut}

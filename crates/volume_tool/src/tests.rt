@@ -1,0 +1,6 @@
+//! Runs over rigs in memory: volumes that are made, inspected and recovered, and what is refused.
+
+mod making;
+mod mending;
+mod outside;
+mod refusals;
