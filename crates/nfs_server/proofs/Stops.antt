@@ -1,5 +1,6 @@
 -- How a volume on a store was started and stopped, one run after another.
-use Rattle.std.proofs.Common.{arith, ◌≡◌, ◌≢◌, inl, inr, ◌∙◌, ℕ, Bool, true, false, List, [], ◌∷◌, refl, sym, ap}
+use Rattle.std.proofs.Common.{arith, ◌≡◌, ◌≢◌, ◌⊎◌, inl, inr, ◌∙◌, ℕ, ◌≤◌, Bool, true, false, List, [], ◌∷◌, refl, sym, ap, subst}
+use Rattle.files_model.specs.declared.attributes.FileId.{FileId}
 use Rattle.stable.specs.Counts.{RoseBy, Rose}
 use Rattle.stable.specs.States.{StaysOrFails}
 use Rattle.stable.specs.Store.{Image}
@@ -63,13 +64,13 @@ module _ {V : Type 0} (s : Ghosts V) where
         opened (inr failed) not = absurd (not failed.0)
 
     -- a volume of that name, which could be mended, was opened on it
-    pub opens_as : {name : List ℕ} (course : Course) → (s.tells → IsWeak (frame (s.image store))) → (s.tells → name ≡ name_in (s.image store)) → RunsAs s down false recovery mid store' name course → OpensAs s down recovery store store' course
-    opens_as Usage weak named runs = absurd runs
-    opens_as (NoRig word fault) weak named runs = absurd runs
-    opens_as (NoUnit fault) weak named runs = absurd runs
-    opens_as (NoVolume fault) weak named runs = absurd runs
-    opens_as (NoPost start fault stop) weak named runs = record { weak = weak; named = λ told. runs.0 ∙ named told; run = run_opened runs.1 }
-    opens_as (Ran start way did stop) weak named runs = record { weak = weak; named = λ told. runs.0 ∙ named told; run = run_opened runs.1 }
+    pub opens_as : {name : List ℕ} (root : FileId) (course : Course) → (s.tells → IsWeak (frame (s.image store))) → (s.tells → name ≡ name_in (s.image store)) → RunsAs s down false recovery mid store' name root course → OpensAs s down recovery store store' course
+    opens_as root Usage weak named runs = absurd runs
+    opens_as root (NoRig word fault) weak named runs = absurd runs
+    opens_as root (NoUnit fault) weak named runs = absurd runs
+    opens_as root (NoVolume fault) weak named runs = absurd runs
+    opens_as root (NoPost start fault stop) weak named runs = record { weak = weak; named = λ told. runs.0 ∙ named told; run = run_opened runs.1 }
+    opens_as root (Ran start way did stop) weak named runs = record { weak = weak; named = λ told. runs.0 ∙ named told; run = run_opened runs.1 }
 
 -- what holds of each pair, by what it follows from
 pub each_pair : {A : Type 0} {P Q : A → A → Type 0} → ((x y : A) → P x y → Q x y) → (xs : List A) (ys : List (ℕ × A)) → EachPair P xs ys → EachPair Q xs ys

@@ -11,4 +11,5 @@ mod runs;
 mod stops;
 mod turns;
 mod volumes;
+mod wire;
 mod worked;

@@ -31,8 +31,8 @@ pub fn with_board(alloc: Global, disk: &[[u8; 512]], buffers: u32) -> Result<Mem
     Ok(rig.crash(true, 0))
 }
 
-// The test volume with such a board.
-fn small(alloc: Global) -> Result<MemRig, Fail> {
+/// The test volume with such a board.
+pub fn small(alloc: Global) -> Result<MemRig, Fail> {
     with_board(alloc, &test_volume(alloc, FRESH)?, 64)
 }
 

@@ -35,6 +35,7 @@ returns g c =
         returned = told.same.posts.back ∙ asked.posts.back ∙ ran.returned;
         faults = told.same.faults ∙ asked.faults ∙ ran.faults;
         grows = grew_after s g.met.S.Stable.clocked ran.holds ran.grows stopped.grows;
+        began = ran.began;
         works = ran.works;
         shared = ran.shared;
         ends = ran.ends;
