@@ -1,5 +1,5 @@
 -- A call that only looks.
-use Rattle.std.proofs.Common.{◌≡◌, ℕ, List, [], ◌∷◌, refl, sym, ap, ◌∙◌, subst, inl}
+use Rattle.std.proofs.Common.{◌≡◌, ℕ, List, refl, sym, subst, inl}
 use Rattle.files_model.specs.declared.call.Call.{Call}
 use Rattle.files_model.specs.declared.credential.Cred.{Cred}
 use Rattle.files_model.specs.declared.reply.Reply.{Reply}
@@ -12,7 +12,7 @@ use Rattle.v7_map.specs.Frame.{frame}
 use Rattle.v7_map.specs.View.{view}
 use Rattle.v7_map.specs.Plans.{IsTornImage}
 use Rattle.v7_map.specs.Weak.{IsWeak, IsStrong}
-use Rattle.volume.specs.Applied.{IsDone, IsKept, IsUntouched}
+use Rattle.volume.specs.Applied.{IsDone, IsUntouched}
 
 -- the step refuses with this status, and changes nothing
 pub record IsRefusal (image : Image) (call : Call) (cred : Cred) (now : ℕ) (status : Stat) : Type 0 where

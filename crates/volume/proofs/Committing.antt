@@ -1,17 +1,14 @@
 -- A batch of writes: planned, put, or neither.
 use Rattle.std.proofs.Common.{◌≡◌, ℕ, ◌≤◌, Bool, true, false, List, [], ◌∷◌, take, length, refl, sym, ap, ◌∙◌, subst, arith, inl}
-use Rattle.std.specs.List.{AllByRecursion}
-use Rattle.arrayvec.specs.ArrayVec.{ArrayVec}
 use Rattle.files_model.specs.declared.attributes.FileId.{FileId}
 use Rattle.files_model.specs.declared.call.Call.TheVariants.{Write}
 use Rattle.files_model.specs.declared.call.WriteItem.{WriteItem}
 use Rattle.files_model.specs.declared.reply.Reply.{Reply}
-use Rattle.files_model.specs.declared.reply.Reply.TheVariants as reply
 use Rattle.files_model.specs.Batch.{calls_of}
 use Rattle.files_model.specs.Files.{Files}
 use Rattle.files_model.specs.Torn.{Asked}
 use Rattle.plan_file.specs.Free.{HasFewer}
-use Rattle.plan_file.specs.Planned.{IsPlanned, IsWriteReply}
+use Rattle.plan_file.specs.Planned.{IsPlanned}
 use Rattle.stable.specs.Looked.{Looked}
 use Rattle.stable.specs.Moments.{IsClocked, LeavesOnly}
 use Rattle.stable.specs.Puts.{put_all, AfterSome, AllPastSuperBlock}
@@ -21,14 +18,13 @@ use Rattle.stable.proofs.Clocked.{ends, goes_on, weaker}
 use Rattle.v7_map.specs.Frame.{frame}
 use Rattle.v7_map.specs.Plans.{IsPlanOf, IsTornImage}
 use Rattle.v7_map.specs.View.{view}
-use Rattle.v7_map.specs.Weak.{IsWeak, IsStrong}
+use Rattle.v7_map.specs.Weak.{IsWeak}
 use Rattle.v7_map.proofs.Kept.{plan-torn}
-use Rattle.v7_sets.specs.Sets.{AreSetsOf}
 use Rattle.v7_sets.specs.declared.sets.Sets.{Sets}
 use Rattle.volume.specs.declared.outcome.Commit.{Commit}
 use Rattle.volume.specs.declared.outcome.Commit.TheVariants as commit
 use Rattle.volume.specs.declared.outcome.Outcome.TheVariants as outcome
-use Rattle.volume.specs.Applied.{Applies, HasForm, IsMomentOf}
+use Rattle.volume.specs.Applied.{Applies}
 use Rattle.volume.specs.Committed.{Commits, CrashLeavesBatch, HasFaultOf, HurtsSo, IsMomentOfBatch, LeavesBatch}
 use Rattle.volume.specs.Keeps.{SameName, SameVolume}
 use Rattle.volume.specs.Rests.{CanServe, IsAtRest}
@@ -40,13 +36,13 @@ use Rattle.volume.proofs.Naming.{name_same, name_planned}
 -- with fewer free blocks they serve as well
 pub fewer_serve : (sectors sectors' : ℕ) (old new : Sets) → sectors' ≡ sectors → HasFewer old new → CanServe sectors old → CanServe sectors' new
 fewer_serve sectors sectors' old new as_many fewer serve = subst (λ (n : ℕ). CanServe n new) (sym as_many) (record {
-    chain = record {
-      two = serve.chain.two;
-      within = λ b free. serve.chain.within b (fewer.blocks b free);
-      numbers = subst (λ (l : List Bool). length l ≤ 65529) (sym fewer.inodes) serve.chain.numbers;
-    };
-    spare = λ b free. serve.spare b (fewer.blocks b free);
-  })
+  chain = record {
+    two = serve.chain.two;
+    within = λ b free. serve.chain.within b (fewer.blocks b free);
+    numbers = subst (λ (l : List Bool). length l ≤ 65529) (sym fewer.inodes) serve.chain.numbers;
+  };
+  spare = λ b free. serve.spare b (fewer.blocks b free);
+})
 
 module _ (image : Image) (calls : List Asked) (now : ℕ) (puts : List (ℕ × List ℕ)) (plan : IsPlanOf image calls now puts) where
   -- some of a plan was put
@@ -98,8 +94,8 @@ module _ {S : Type 0} (s : Ghosts S) (clocked : IsClocked s.tells s.image s.mome
       goes_on
       (weaker looked.crash (λ d left same. (torn_same (calls_of file ws) now (s.image old) d same (weak (clocked.told mid (s.moment old) d left)), name_same (s.image old) d same)))
       run (λ d left some. (
-          torn_planned (s.image old) (calls_of file ws) now puts (plan (clocked.told new (s.moment mid) d left)) (s.image mid) d looked.image some,
-          name_planned puts (s.image old) (s.image mid) d looked.image past some
+        torn_planned (s.image old) (calls_of file ws) now puts (plan (clocked.told new (s.moment mid) d left)) (s.image mid) d looked.image some,
+        name_planned puts (s.image old) (s.image mid) d looked.image past some,
       ))
 
   -- ---- a mend first

@@ -1,19 +1,14 @@
 -- A volume at rest that is mended, and one that is called.
-use Rattle.std.proofs.Common.{◌≡◌, ℕ, ◌+◌, ◌≤◌, Bool, true, false, List, Option, Some, None, refl, sym, ap, ◌∙◌, subst, inl, inr, arith}
+use Rattle.std.proofs.Common.{◌≡◌, ℕ, ◌≤◌, Bool, false, List, Option, Some, None, refl, sym, ◌∙◌, subst, inl, arith}
 use Rattle.std.specs.Ordering.{nat_cmp}
 use Rattle.std.specs.FinMap.{FinMap}
 use Rattle.files_model.specs.Files.{Files}
-use Rattle.files_model.specs.Step.{is_change}
 use Rattle.files_model.specs.declared.call.Call.{Call}
 use Rattle.files_model.specs.declared.credential.Cred.{Cred}
 use Rattle.stable.specs.Moments.{IsClocked, LeavesOnly}
-use Rattle.stable.specs.States.{SomePuts}
-use Rattle.stable.specs.Store.{Image, name_in}
-use Rattle.stable.specs.declared.snapshot.Snapshot.{Snapshot}
+use Rattle.stable.specs.Store.{Image}
 use Rattle.stable.specs.declared.store.Stable.{Ghosts}
-use Rattle.stable.specs.Looked.{Looked}
-use Rattle.stable.proofs.Clocked.{ends, goes_on, started, weaker}
-use Rattle.stable.proofs.Counted.{made_then}
+use Rattle.stable.proofs.Clocked.{ends, goes_on, weaker}
 use Rattle.v7_damage.specs.Tests.{told}
 use Rattle.v7_damage.specs.Undamaged.{IsFaultOf}
 use Rattle.v7_damage.specs.declared.damage.Damage.{Damage}
@@ -21,18 +16,16 @@ use Rattle.v7_damage.specs.declared.damage.RepairFault.TheVariants.{Damaged}
 use Rattle.v7_map.specs.Damage.{Test, damage}
 use Rattle.v7_map.specs.Frame.{Frame, frame}
 use Rattle.v7_map.specs.View.{view}
-use Rattle.v7_map.specs.Weak.{IsWeak, IsStrong}
+use Rattle.v7_map.specs.Weak.{IsWeak}
 use Rattle.v7_map.proofs.AnyFrame.{frame-IsFrame}
 use Rattle.v7_map.proofs.Weakness.{no_damage_when_weak}
-use Rattle.v7_repair.specs.Leaves.{MayMend}
 use Rattle.v7_sets.specs.Sets.{AreSets, AreSetsOf}
 use Rattle.v7_sets.specs.declared.sets.Sets.{Sets}
 use Rattle.volume.specs.declared.outcome.Outcome.{Outcome}
 use Rattle.volume.specs.declared.outcome.Outcome.TheVariants as outcome
-use Rattle.volume.specs.Applied.{Applies, CrashLeaves, HasFault, HasFormAt, HasFormOf, Hurts, IsApplied, IsMomentOf, Leaves, LeavesFiles, TakesMemory, hurts}
+use Rattle.volume.specs.Applied.{Applies, CrashLeaves, HasFault, HasFormAt, Hurts, IsMomentOf, LeavesFiles}
 use Rattle.volume.specs.Keeps.{SameVolume}
 use Rattle.volume.specs.Rests.{CanServe, IsAtRest}
-use Rattle.volume.proofs.Naming.{name_same}
 
 -- ---- what stays
 
@@ -110,4 +103,3 @@ module _ {S : Type 0} (s : Ghosts S) (clocked : IsClocked s.tells s.image s.mome
               name = moment.name ∙ found.name;
             });
       }
-

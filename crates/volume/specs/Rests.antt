@@ -1,5 +1,5 @@
 -- A volume at rest: what holds of it between two calls.
-use Rattle.std.specs.Prelude.{◌≡◌, ℕ, Bool, false, List}
+use Rattle.std.specs.Prelude.{◌≡◌, ℕ, Bool, false}
 use Rattle.stable.specs.Store.{Image}
 use Rattle.stable.specs.declared.store.Stable.{Ghosts}
 use Rattle.v7_map.specs.Frame.{frame}
