@@ -12,7 +12,7 @@ use Rattle.v7_map.specs.Frame.{frame}
 use Rattle.v7_map.specs.View.{view}
 use Rattle.v7_map.specs.Plans.{IsTornImage}
 use Rattle.v7_map.specs.Weak.{IsWeak, IsStrong}
-use Rattle.volume.specs.Applied.{IsDone, IsUntouched}
+use Rattle.volume.specs.Applied.{IsDone}
 
 -- the step refuses with this status, and changes nothing
 pub record IsRefusal (image : Image) (call : Call) (cred : Cred) (now : ℕ) (status : Stat) : Type 0 where
@@ -22,10 +22,6 @@ pub record IsRefusal (image : Image) (call : Call) (cred : Cred) (now : ℕ) (st
 -- nothing has changed yet
 pub torn_same : (calls : List Asked) (now : ℕ) (old image : Image) → image ≡ old → IsWeak (frame old) → IsTornImage (view old) calls now image
 torn_same calls now old image same weak = subst (λ (x : Image). IsTornImage (view old) calls now x) (sym same) (record { weak = weak; torn = inl refl })
-
--- nothing has changed at all
-pub untouched_same : (old image : Image) → image ≡ old → IsWeak (frame old) → IsUntouched (view old) image
-untouched_same old image same weak = subst (λ (x : Image). IsUntouched (view old) x) (sym same) (record { weak = weak; view_is = refl })
 
 module _ (call : Call) (cred : Cred) (now : ℕ) where
   -- a step that changes nothing

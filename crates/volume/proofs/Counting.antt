@@ -54,10 +54,3 @@ module _ {S : Type 0} (s : Ghosts S) where
     puts = puts_wider (mend_puts was + (mend_puts false + most)) (mend_puts was + most) (s.faults old) (s.faults new) (s.snapshot_of old) (s.snapshot_of new) (omega arith) (puts_then (mend_puts was) (mend_puts false + most) (s.snapshot_of old) (s.snapshot_of mid) (s.snapshot_of new) (s.faults old) (s.faults mid) (s.faults new) later last mended made.puts);
     cheap = λ told sound. subst (λ (x : S). SomePuts (price x) (s.faults x) (s.faults new) (s.snapshot_of x) (s.snapshot_of new)) (idle sound) (made.cheap told refl);
   }
-
-  -- a mend that failed
-  pub cost_mended : (old new : S) (was : Bool) (most price : ℕ) → (was ≡ false → ⊥) → SomePuts (mend_puts was) (s.faults old) (s.faults new) (s.snapshot_of old) (s.snapshot_of new) → CostsAtMost s old new was most price
-  cost_mended old new was most price hurt mended = record {
-    puts = puts_wider (mend_puts was) (mend_puts was + most) (s.faults old) (s.faults new) (s.snapshot_of old) (s.snapshot_of new) (omega arith) mended;
-    cheap = λ told sound. absurd (hurt sound);
-  }
