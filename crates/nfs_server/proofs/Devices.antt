@@ -2,7 +2,6 @@
 use Rattle.std.proofs.Common.{arith, ◌≡◌, ⊎_elim, true}
 use Rattle.stable.specs.Counts.{Rose}
 use Rattle.rig.specs.declared.rig.Rig.{Ghosts}
-use Rattle.nvram_map.specs.declared.fault.BoardFault.{BoardFault}
 use Rattle.nvram_map.specs.declared.fault.BoardFault.TheVariants as board
 use Rattle.presto_recover.specs.Refused.{IsReason}
 use Rattle.presto_recover.specs.declared.fault.OpenFault.{OpenFault as UnitFault}

@@ -20,7 +20,7 @@ use Rattle.v7_map.specs.View.{view, files_of}
 use Rattle.volume.specs.Opens.{Refuses, name_in, root_in}
 use Rattle.nfs_worker.specs.declared.desk.Desk.{Desk}
 use Rattle.nfs_server.specs.Course.{Course, Start, Stop, Usage, NoRig, NoUnit, NoVolume, NoPost, Ran}
-use Rattle.nfs_server.specs.Run.{IsRun, IsRefusedAs, IsServedAs, RunsAs, OpensAs, EachPair}
+use Rattle.nfs_server.specs.Run.{IsRun, IsRefusedAs, RunsAs, OpensAs, EachPair}
 use Rattle.nfs_server.specs.Stopped.{StopsAs}
 use Rattle.nfs_server.specs.declared.starting.Recovery.{Recovery}
 

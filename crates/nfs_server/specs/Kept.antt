@@ -1,5 +1,5 @@
 -- What a run says of the rig of a volume, of what disk and board stand for together (docs/DEVICES.md, "The unit").
-use Rattle.std.specs.Prelude.{◌≡◌, ◌≢◌, ◌≤◌, ◌+◌, ℕ, Bool, true, false, List, [], length}
+use Rattle.std.specs.Prelude.{◌≡◌, ◌≢◌, ◌≤◌, ◌+◌, ℕ, Bool, true, false, List, length}
 use Rattle.files_model.specs.History.{failures}
 use Rattle.stable.specs.Counts.{Rose, RoseBy}
 use Rattle.stable.specs.Store.{Image}

@@ -1,5 +1,5 @@
 -- What a run of the server does (docs/CALLS.md, "Lines and statuses").
-use Rattle.std.specs.Prelude.{◌≡◌, ◌≢◌, ◌⊎◌, ℕ, ◌+◌, ◌-◌, ◌≤◌, Bool, true, false, List, [], ◌∷◌, ◌++◌, length, Option, Some, None, IsSome}
+use Rattle.std.specs.Prelude.{◌≡◌, ◌≢◌, ◌⊎◌, ℕ, ◌+◌, ◌-◌, ◌≤◌, Bool, false, List, [], ◌∷◌, ◌++◌, length, Option, Some, None, IsSome}
 use Rattle.std.specs.List.{flat_map}
 use Rattle.stable.specs.Counts.{Rose, RoseBy}
 use Rattle.stable.specs.declared.state.State.TheVariants.{Up}

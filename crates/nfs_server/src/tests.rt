@@ -4,6 +4,7 @@ mod boards;
 mod calls;
 mod crashes;
 mod damages;
+mod growths;
 mod hurts;
 mod outside;
 mod refusals;

@@ -22,7 +22,7 @@ use Rattle.v7_map.proofs.Answers.{getattr-answer, read-answer}
 use Rattle.v7_map.proofs.Contents.{take-more, content-part, length-content}
 use Rattle.v7_map.specs.declared.found.Found.{Found}
 use Rattle.v7_map.specs.Found.{IsFile}
-use Rattle.volume.specs.Prepares.{IsRefusal}
+use Rattle.volume.proofs.Applying.{IsRefusal}
 
 -- ---- they change nothing
 

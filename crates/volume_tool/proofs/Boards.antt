@@ -1,12 +1,12 @@
 -- A rig that is ready for a volume, and one on which it was made.
-use Rattle.std.proofs.Common.{arith, ◌≡◌, ◌∙◌, inl, inr, ⊎_elim, ℕ, ◌+◌, ◌^◌, ◌<◌, ◌≤◌, Bool, true, false, List, [], ◌++◌, length, take, drop, get_or, Result, Ok, Err, IfOk, OnOk, refl, sym, ap, subst}
+use Rattle.std.proofs.Common.{arith, ◌≡◌, ◌∙◌, inl, inr, ⊎_elim, ℕ, ◌+◌, ◌^◌, ◌<◌, ◌≤◌, true, List, [], ◌++◌, length, take, drop, get_or, Result, Ok, Err, IfOk, OnOk, refl, sym, ap, subst}
 use Rattle.std.proofs.lemmas.Bool.{true≢false}
 use Rattle.std.proofs.lemmas.List.{get_or-set_same}
 use Rattle.stable.specs.Counts.{Rose}
 use Rattle.stable.specs.Moments.{IsClocked}
 use Rattle.stable.specs.States.{SomePuts}
 use Rattle.stable.specs.Store.{Image, StaysOpenable, name_in}
-use Rattle.stable.specs.declared.state.State.TheVariants.{Up, Down}
+use Rattle.stable.specs.declared.state.State.TheVariants.{Down}
 use Rattle.rig.specs.Devices.{Devices, Sizes, HasShape, IsBoard, with_kept, with_sector}
 use Rattle.rig.specs.declared.rig.Rig.{Ghosts}
 use Rattle.nvram_map.specs.Formats.{formatted}
@@ -14,7 +14,7 @@ use Rattle.nvram_map.specs.Overlay.{overlay, NoEntry}
 use Rattle.nvram_map.specs.Words.{name_word, IsBoardOf}
 use Rattle.nvram_map.proofs.Shapes.{shape_now}
 use Rattle.presto_cache.specs.Made.{AreReadFrom}
-use Rattle.presto_unit.specs.Opening.{IsOpenable, title_of}
+use Rattle.presto_unit.specs.Opening.{IsOpenable}
 use Rattle.presto_unit.specs.Parts.{rig_of, state_of}
 use Rattle.presto_unit.specs.declared.presto.Presto.{Presto}
 use Rattle.presto_recover.proofs.Emptied.{formatted_board, formatted_read, marked_overlay}

@@ -1,5 +1,5 @@
 -- What Down answers.
-use Rattle.std.proofs.Common.{arith, ◌≡◌, ◌≢◌, ◌∙◌, ℕ, zero, suc, refl, sym, ap, subst}
+use Rattle.std.proofs.Common.{arith, ◌≡◌, ◌≢◌, ◌∙◌, ℕ, zero, suc, refl, ap, subst}
 use Rattle.stable.specs.Counts.{Rose, RoseBy}
 use Rattle.stable.specs.States.{after_command, HasLeft, IsCommanded}
 use Rattle.stable.specs.declared.battery.Battery.{Battery}

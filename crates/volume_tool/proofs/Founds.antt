@@ -1,5 +1,5 @@
 -- What is found on a rig, by what is found on its unit.
-use Rattle.std.proofs.Common.{arith, ◌≡◌, ◌∙◌, ℕ, Bool, false, subst}
+use Rattle.std.proofs.Common.{arith, ◌≡◌, Bool, false, subst}
 use Rattle.stable.specs.Counts.{Rose}
 use Rattle.stable.specs.Moments.{IsClocked}
 use Rattle.stable.specs.Store.{Image}

@@ -13,7 +13,6 @@ use Rattle.presto_recover.specs.declared.fault.OpenFault.{OpenFault}
 use Rattle.presto_recover.specs.declared.parts.Opened.{Opened}
 use Rattle.presto_recover.proofs.Recovering.{accepted_opens}
 use Rattle.presto_recover.proofs.Shown.{same_overlay, still_opens}
-use Rattle.presto_unit.specs.Images.{overlays_since}
 use Rattle.presto_unit.specs.Opening.{IsOpenable, opens_since}
 use Rattle.presto_unit.specs.Parts.{rig_of}
 use Rattle.presto_unit.specs.declared.presto.Presto.{Presto}

@@ -1,5 +1,5 @@
 -- What a run did, by what it did on the rig that it was given, if any.
-use Rattle.std.proofs.Common.{arith, ◌≡◌, ◌≢◌, ◌∙◌, ℕ, zero, suc, ◌<◌, ◌≤◌, Bool, true, false, List, [], ◌∷◌, Option, Some, None, refl, sym, ap, subst}
+use Rattle.std.proofs.Common.{arith, ◌≡◌, ◌≢◌, ◌∙◌, ℕ, ◌<◌, ◌≤◌, Bool, true, false, Option, Some, None, refl, sym, ap, subst}
 use Rattle.std.specs.Prelude.{nat_eq}
 use Rattle.std.proofs.lemmas.Bool.{eqb-true, eqb-false}
 use Rattle.stable.specs.Counts.{Rose}
@@ -14,12 +14,11 @@ use Rattle.presto_recover.specs.Refused.{IsReason}
 use Rattle.presto_recover.specs.declared.fault.OpenFault.{OpenFault as UnitFault}
 use Rattle.presto_recover.specs.declared.fault.OpenFault.TheVariants as unit
 use Rattle.nvram_map.specs.declared.fault.BoardFault.TheVariants as board
-use Rattle.v7_damage.specs.declared.damage.RepairFault.{RepairFault}
 use Rattle.v7_make.specs.declared.fault.MakeFault.{MakeFault}
 use Rattle.v7_make.specs.declared.fault.MakeFault.TheVariants as make
 use Rattle.run_lines.specs.Lines.{no_volume_line}
 use Rattle.run_lines.specs.Naming.{Named}
-use Rattle.run_lines.specs.Refusals.{host_status, host_line, unit_status, volume_status}
+use Rattle.run_lines.specs.Refusals.{host_status, host_line, unit_status}
 use Rattle.run_lines.proofs.Loans.{loan_one}
 use Rattle.run_lines.proofs.Sayings.{loans_both}
 use Rattle.run_lines.proofs.Statuses.{host_failed, host_not, unit_not, volume_failed, volume_not}
@@ -27,7 +26,7 @@ use Rattle.volume_tool.specs.Checked.{ChecksAs}
 use Rattle.volume_tool.specs.Course.{Course, Usage, Unfit, NoRig, NotMade, Made, NoUnit, NoVolume, Checked, NotStopped, Recovered, make_status, status_of, line_of, has_rig}
 use Rattle.volume_tool.specs.Made.{IsNotMade, MakesAs}
 use Rattle.volume_tool.specs.Recovered.{RecoversAs}
-use Rattle.volume_tool.specs.Run.{FoundAs, IsFit, IsUnfit, KeptAs, Lends, OneRig, Outcome, Understood, volume_of}
+use Rattle.volume_tool.specs.Run.{FoundAs, IsFit, KeptAs, Lends, Outcome, Understood, volume_of}
 use Rattle.volume_tool.specs.Told.{Runs, Tells}
 use Rattle.volume_tool.specs.Words.{Asked, Plan, Make, Check, Recover}
 use Rattle.volume_tool.proofs.Tellings.{answers_before, answers_later, answers_not}

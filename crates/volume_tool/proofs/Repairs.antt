@@ -13,9 +13,8 @@ use Rattle.v7_make.specs.Chains.{AreIdle}
 use Rattle.v7_repair.specs.Leaves.{IsRepaired, Leaves}
 use Rattle.v7_repair.specs.Runs.{HasRun}
 use Rattle.v7_repair.specs.declared.mended.Mended.{Mended}
-use Rattle.volume_tool.specs.Checked.{HasFault}
 use Rattle.volume_tool.specs.Course.{Course, Usage, Unfit, NoRig, NotMade, Made, NoUnit, NoVolume, Checked, NotStopped, Recovered}
-use Rattle.volume_tool.specs.Recovered.{IsStoppedClean, RecoversStore, StopsStore}
+use Rattle.volume_tool.specs.Recovered.{RecoversStore, StopsStore}
 
 -- where the data blocks begin
 data_begin : (image : Image) → (frame image).isize ≡ isize_of image

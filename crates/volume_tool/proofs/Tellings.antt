@@ -1,7 +1,7 @@
 -- The status and the line of a run, and what was asked of the host before and after it.
-use Rattle.std.proofs.Common.{arith, ◌≡◌, ◌≢◌, ◌∙◌, inl, inr, ⊎_elim, ℕ, zero, suc, ◌<◌, ◌≤◌, List, [], ◌∷◌, refl, sym, ap, subst}
+use Rattle.std.proofs.Common.{arith, ◌≡◌, ◌≢◌, ◌∙◌, inl, inr, ⊎_elim, ℕ, zero, suc, ◌<◌, List, [], ◌∷◌, sym, ap, subst}
 use Rattle.stable.specs.Counts.{Rose}
-use Rattle.rig.specs.Hosts.{SameLoans, SameLines}
+use Rattle.rig.specs.Hosts.{SameLines}
 use Rattle.rig.specs.Links.{gains}
 use Rattle.rig.specs.declared.host.Host.{Ghosts}
 use Rattle.rig.specs.declared.say.Say.{Ghosts as SayGhosts}
@@ -9,7 +9,7 @@ use Rattle.run_lines.specs.Refusals.{Refuses}
 use Rattle.run_lines.specs.Told.{SameHost, Told}
 use Rattle.run_lines.specs.declared.refusing.Refusal.{Refusal}
 use Rattle.run_lines.proofs.Sayings.{loans_both, said_before, said_later, told_as}
-use Rattle.volume_tool.specs.Told.{Answers, IsSaid, IsUnsaid, Prints, Tells}
+use Rattle.volume_tool.specs.Told.{Answers, Tells}
 
 module _ {S : Type 0} (say : SayGhosts S) where
   -- nothing was said before

@@ -1,4 +1,4 @@
--- How far a run of the tool comes, and its status and line (docs/CALLS.md, "Lines and statuses").
+-- How far a run of the tool comes, and its status and line.
 use Rattle.std.specs.Prelude.{ℕ, Bool, true, false, List}
 use Rattle.rig.specs.declared.host.HostFault.{HostFault}
 use Rattle.presto_recover.specs.declared.fault.OpenFault.{OpenFault as UnitFault}

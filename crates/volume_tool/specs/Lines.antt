@@ -1,4 +1,4 @@
--- The lines that the tool says (docs/CALLS.md, "Lines and statuses").
+-- The lines that the tool says.
 use Rattle.std.specs.Prelude.{ℕ, Bool, List, ◌++◌, ◌&&◌, if◌then◌else◌, codes}
 use Rattle.std.specs.Fmt.{decimal}
 use Rattle.v7_inspect.specs.declared.seen.Seen.{Seen}

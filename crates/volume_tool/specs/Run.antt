@@ -1,5 +1,5 @@
--- What a run of the tool does (docs/CALLS.md, "Lines and statuses").
-use Rattle.std.specs.Prelude.{◌≡◌, ℕ, Bool, true, false, List, [], ◌∷◌, Option, None, Some, IsSome, Ok, Err}
+-- What a run of the tool does.
+use Rattle.std.specs.Prelude.{◌≡◌, ℕ, Bool, true, false, [], ◌∷◌, Option, None, Some, IsSome, Ok, Err}
 use Rattle.stable.specs.Counts.{Rose}
 use Rattle.stable.specs.Store.{Same}
 use Rattle.rig.specs.Hosts.{SameLoans}

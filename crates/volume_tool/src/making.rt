@@ -1,8 +1,9 @@
 //! A volume is made on a rig.
-ghost use Rattle.std.specs.Prelude.{◌≡◌, ◌<◌, ◌≤◌, ◌+◌, ◌++◌, take, drop, length, Ok, OnOk, IfOk};
+ghost use Rattle.std.specs.Prelude.{◌≡◌, ◌<◌, ◌≤◌, ◌+◌, ◌++◌, take, drop, length, true, Ok, OnOk, IfOk};
 ghost use Rattle.stable.specs.Counts.{HasCause};
 ghost use Rattle.stable.specs.Store.{name_in};
 ghost use Rattle.stable.specs.declared.state.State.TheVariants.{Down};
+ghost use Rattle.rig.specs.Devices.{with_kept};
 ghost use Rattle.presto_unit.specs.Parts.{rig_of, state_of};
 ghost use Rattle.v7_make.specs.Sizes.{fitting};
 ghost use Rattle.volume_tool.specs.Made.{IsReady, MakesOn};
@@ -42,6 +43,16 @@ fn titled(name: [u8; 6]) -> [u8; 512]
     with_name(&no_bytes(), &name)
 }
 
+// Marks the board as one that kept its memory.
+fn mark<R: Rig>(rig: &mut R) -> Result<(), Failed>
+    ensures done { R.tells → OnOk result (R.contents rig.new ≡ with_kept (R.contents rig.old)) }
+    ensures kept { OnOk result (R.is_kept rig.new ≡ true) }
+    ensures cause { HasCause (R.faults rig.old) (R.faults rig.new) result }
+    ensures sizes { R.sizes rig.new ≡ R.sizes rig.old }
+{
+    rig.mark_kept()
+}
+
 // Makes the board one of the volume with that name, which is put on the disk, and without an entry. The volume on the disk is no more.
 fn prepare_board<R: Rig>(rig: &mut R, name: [u8; 6]) -> Result<(), Failed>
     requires board { 0 < (R.sizes rig.old).buffers }
@@ -54,7 +65,7 @@ fn prepare_board<R: Rig>(rig: &mut R, name: [u8; 6]) -> Result<(), Failed>
     let _sectors = rig.sectors();
     rig.write(1, &titled(name))?;
     format(rig, name)?;
-    rig.mark_kept()
+    mark(rig)
 }
 
 // Makes a rig ready for a volume of that name.

@@ -104,7 +104,14 @@ fn recover<H: Host>(alloc: Global, host: &mut H, volume: &Named<'_>, accept_loss
     }
 }
 
-/// Makes, inspects or recovers the volume that the words name. The result is the status of the program (docs/CALLS.md, "Lines and statuses").
+/// Makes, inspects or recovers the volume that the words name, says one line, and answers the status of the program. A rig that the host gave is given
+/// back as that of volume 0. The files of a volume that is inspected or recovered are the same at each moment, whatever the status.
+///
+/// - 0: a volume was made; or inspected; or mended and stopped cleanly.
+/// - 64: the words aren't of the grammar. 65: the sizes are refused, before a rig is made. 66: the host failed to give a rig.
+/// - 67 to 70: the board isn't the volume's, lost its memory, isn't formatted, or has a bad entry. 68: so it is too where the volume can't be mended.
+/// - 74: a device failed; or the line of a run that was done can't be said.
+/// - 75: there was no memory.
 pub fn tool<H: Host>(alloc: Global, words: &[String], host: &mut H) -> u8
     // The words alone decide on the usage line.
     ensures usage { result ≡ 64 ↔ asked_by (map string_bytes words.now) ≡ None }

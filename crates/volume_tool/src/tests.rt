@@ -2,5 +2,6 @@
 
 mod making;
 mod mending;
+mod mute;
 mod outside;
 mod refusals;

@@ -97,9 +97,9 @@ fn long_reply(alloc: Global) -> Result<Vec<u8>, Fail> {
     Ok(bytes)
 }
 
-// How many device calls the long WRITE makes before its first store on the board: it reads the super-block, the inode, ten
-// sectors of data, and the indirect block with each of the other six.
-const READS: u64 = 24;
+// How many device calls the long WRITE makes before its first store on the board: it reads the super-block, the inode and the indirect block, and
+// none of the sectors that it gives whole.
+const READS: u64 = 3;
 
 // Serves the long WRITE over a rig that is cut at that store of the board, counted from 1.
 fn cut_at(

@@ -1,4 +1,4 @@
-use Rattle.std.proofs.Common.{arith, ◌≡◌, ◌≤◌, ◌++◌, ◌∙◌, ℕ, [], ◌∷◌, List, Err, Bool, refl, sym, ap, subst}
+use Rattle.std.proofs.Common.{arith, ◌++◌, ◌∙◌, ℕ, [], ◌∷◌, List, Err, refl, sym, ap, subst}
 use Rattle.stable.specs.Counts.{Rose, RoseBy}
 use Rattle.stable.specs.declared.snapshot.Snapshot.{Snapshot}
 use Rattle.nfs_worker.specs.Worker.{Own}
@@ -12,7 +12,7 @@ use Rattle.volume.specs.declared.mounted.Volume.{Volume}
 use Rattle.nfs_server.proofs.Endings.{closing_not}
 use Rattle.run_lines.proofs.Loans.{loan_none, loan_one}
 use Rattle.run_lines.proofs.Statuses.{host_failed}
-use Rattle.run_lines.proofs.Sayings.{loans_both, said_both, said_later, told_as}
+use Rattle.run_lines.proofs.Sayings.{loans_both, said_both, said_later}
 use Rattle.nfs_server.proofs.Stops.{stops_since}
 use Rattle.nfs_server.proofs.running.serve_open.Goals as goal
 use Rattle.volume.specs.Mounted.{store_of, is_hurt, name_of, root_of}

@@ -1,4 +1,4 @@
-use Rattle.std.proofs.Common.{arith, ◌≡◌, ◌∙◌, ℕ, false, sym, ap, subst}
+use Rattle.std.proofs.Common.{arith, ◌∙◌, ℕ, false, sym, ap, subst}
 use Rattle.stable.specs.Counts.{RoseBy}
 use Rattle.stable.specs.declared.snapshot.Snapshot.{Snapshot}
 use Rattle.nfs_worker.specs.Turns.{datagrams}

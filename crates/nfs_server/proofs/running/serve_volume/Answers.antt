@@ -1,4 +1,4 @@
-use Rattle.std.proofs.Common.{arith, ◌≡◌, ◌∙◌, ℕ, [], ◌∷◌, List, Bool, false, refl, sym, ap, subst}
+use Rattle.std.proofs.Common.{arith, ◌∙◌, ℕ, [], ◌∷◌, List, Bool, refl, sym, ap, subst}
 use Rattle.stable.specs.Counts.{RoseBy, Rose}
 use Rattle.stable.proofs.Clocked.{ends}
 use Rattle.nfs_worker.proofs.Accounts.{grew_opened, grew_before}

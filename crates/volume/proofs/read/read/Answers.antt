@@ -1,4 +1,4 @@
-use Rattle.std.proofs.Common.{rules, subst, sym, Option, None, ap, ◌∙◌, ◌≡◌}
+use Rattle.std.proofs.Common.{rules, [], ◌∷◌, subst, sym, Option, None, ap, ◌∙◌, ◌≡◌}
 use Rattle.files_model.specs.declared.call.Call.{Call}
 use Rattle.files_model.specs.declared.call.Call.TheVariants.{Read}
 use Rattle.files_model.specs.declared.attributes.Attr.{Attr}
@@ -27,7 +27,7 @@ returns-in-Ok-None-clause-applied g c =
           (read_stale old strong c.args.file c.args.cred.now c.args.now c.args.offset c.args.count found);
       form = tt;
       cause = search rules;
-      crash = weaker c.in-Ok-None.ensures.looked.crash (λ i left is. torn_same call c.args.cred.now c.args.now old i is);
+      crash = weaker c.in-Ok-None.ensures.looked.crash (λ i left is strong. torn_same ((call, c.args.cred.now) ∷ []) c.args.now old i is strong.weak);
     }
 
 pub returns-in-Some-clause-applied : goal.returns-in-Some-clause-applied
@@ -42,7 +42,7 @@ returns-in-Some-clause-applied g c =
           (read_refused old strong c.args.file c.args.cred.now c.args.now c.args.offset c.args.count c.in-Ok-Some.found found c.in-Some.status (sym c.in-Some.ensures));
       form = tt;
       cause = search rules;
-      crash = weaker c.in-Ok-Some.ensures.looked.crash (λ i left is. torn_same call c.args.cred.now c.args.now old i is);
+      crash = weaker c.in-Ok-Some.ensures.looked.crash (λ i left is strong. torn_same ((call, c.args.cred.now) ∷ []) c.args.now old i is strong.weak);
     }
 
 pub returns-in-Ok-clause-applied : goal.returns-in-Ok-clause-applied
@@ -62,5 +62,5 @@ returns-in-Ok-clause-applied g c =
           (read-idle (view old) c.args.file c.args.offset c.args.count c.args.cred.now);
       form = search rules;
       cause = search rules;
-      crash = weaker (idles g.met.S.Stable.clocked c.in-Ok-Some.ensures.looked.crash c.in-Ok.ensures.looked.crash) (λ i left is. torn_same call c.args.cred.now c.args.now old i is);
+      crash = weaker (idles g.met.S.Stable.clocked c.in-Ok-Some.ensures.looked.crash c.in-Ok.ensures.looked.crash) (λ i left is strong. torn_same ((call, c.args.cred.now) ∷ []) c.args.now old i is strong.weak);
     }

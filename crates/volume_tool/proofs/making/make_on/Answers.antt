@@ -1,6 +1,5 @@
-use Rattle.std.proofs.Common.{◌≡◌, sym, subst}
+use Rattle.std.proofs.Common.{sym, subst}
 use Rattle.nvram_map.specs.Overlay.{NoEntry}
-use Rattle.presto_unit.specs.Parts.{rig_of}
 use Rattle.volume_tool.specs.Asking.{plan_read}
 use Rattle.volume_tool.specs.Made.{MakesOn}
 use Rattle.volume_tool.proofs.Boards.{makes_on}

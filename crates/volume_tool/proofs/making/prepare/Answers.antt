@@ -1,4 +1,4 @@
-use Rattle.std.proofs.Common.{arith, ◌≡◌, inl, subst}
+use Rattle.std.proofs.Common.{arith, ◌≡◌, inl}
 use Rattle.nvram_map.proofs.Shapes.{shape_now}
 use Rattle.presto_recover.proofs.Emptied.{bare_read}
 use Rattle.volume_tool.proofs.making.prepare.Goals as goal

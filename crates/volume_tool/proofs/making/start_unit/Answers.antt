@@ -1,6 +1,6 @@
-use Rattle.std.proofs.Common.{rules, ◌≡◌, ◌∙◌, ℕ, List, length, sym, ap, subst}
+use Rattle.std.proofs.Common.{rules, ◌≡◌, ◌∙◌, ℕ, length, sym, ap}
 use Rattle.stable.specs.declared.state.Cause.TheVariants as cause
-use Rattle.presto_cache.specs.Cache.{Knows, slots_of}
+use Rattle.presto_cache.specs.Cache.{Knows}
 use Rattle.presto_unit.specs.Happenings.{starting}
 use Rattle.presto_unit.specs.Shown.{dirty_in}
 use Rattle.presto_recover.proofs.Counted.{cache_counts}

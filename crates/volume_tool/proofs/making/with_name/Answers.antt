@@ -1,4 +1,4 @@
-use Rattle.std.proofs.Common.{◌∙◌, ap, rules}
+use Rattle.std.proofs.Common.{rules}
 use Rattle.v7_layout.proofs.Parts.{put_mid-splice}
 use Rattle.volume_tool.proofs.making.with_name.Goals as goal
 

@@ -1,4 +1,4 @@
-use Rattle.std.proofs.Common.{arith, ◌∙◌, Err, refl, ap}
+use Rattle.std.proofs.Common.{arith, Err}
 use Rattle.run_lines.specs.Refusals.{volume_status}
 use Rattle.run_lines.proofs.Statuses.{volume_not}
 use Rattle.volume_tool.specs.Course.{NoVolume}

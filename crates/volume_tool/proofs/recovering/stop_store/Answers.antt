@@ -1,4 +1,3 @@
-use Rattle.std.proofs.Common.{arith}
 use Rattle.volume_tool.specs.Kept.{SameFiles}
 use Rattle.volume_tool.proofs.Keeping.{chain_keeps, files_both, files_same, image_keeps, keeps_both}
 use Rattle.volume_tool.proofs.recovering.stop_store.Goals as goal

@@ -2,7 +2,7 @@ use Rattle.std.proofs.Common.{arith, refl, sym}
 use Rattle.run_lines.specs.Naming.{named_of}
 use Rattle.volume_tool.specs.Asking.{plan_read}
 use Rattle.volume_tool.specs.Course.{Unfit, make_status}
-use Rattle.volume_tool.specs.Words.{Make, Asked}
+use Rattle.volume_tool.specs.Words.{Make}
 use Rattle.std.proofs.Common.{Some}
 use Rattle.volume_tool.proofs.Lent.{make_not, make_not_host, outcome_told, positive}
 use Rattle.volume_tool.proofs.Tellings.{tells_refused}

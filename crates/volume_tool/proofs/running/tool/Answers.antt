@@ -1,6 +1,6 @@
-use Rattle.std.proofs.Common.{arith, ◌∙◌, ◌≡◌, Option, None, Some, map, string_bytes, refl, sym, subst}
+use Rattle.std.proofs.Common.{arith, map, string_bytes, refl, sym}
 use Rattle.volume_tool.specs.Course.{Usage}
-use Rattle.volume_tool.specs.Words.{Asked, asked_by}
+use Rattle.volume_tool.specs.Words.{asked_by}
 use Rattle.volume_tool.proofs.Lent.{outcome_told}
 use Rattle.volume_tool.proofs.running.tool.Goals as goal
 
