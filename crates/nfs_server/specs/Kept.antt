@@ -17,7 +17,7 @@ use Rattle.v7_damage.specs.Undamaged.{IsFaultOf}
 use Rattle.v7_damage.specs.declared.damage.RepairFault.{RepairFault}
 use Rattle.v7_damage.specs.declared.damage.RepairFault.TheVariants as repair
 use Rattle.volume.specs.Keeps.{SameName}
-use Rattle.volume.specs.Opens.{name_in}
+use Rattle.volume.specs.Opens.{name_in, root_in}
 use Rattle.run_lines.specs.Overlays.{overlay_of, overlays_of}
 use Rattle.nfs_worker.specs.Account.{Hold, history, HasGrown, IsRecovered, MarksWithin, Lasts}
 use Rattle.nfs_worker.specs.Tending.{IsError}
@@ -86,4 +86,5 @@ FoundAs r options (NoRig word fault) rig back = ⊥
 FoundAs r options (NoUnit fault) rig back = IsNotOpened r options rig back fault
 FoundAs r options (NoVolume fault) rig back = HasNone r options rig back fault
 FoundAs r options (NoPost start fault stop) rig back = IsFound r options rig back start stop
-FoundAs r options (Ran start way did stop) rig back = IsFound r options rig back start stop
+-- MNT gave the root of the volume found
+FoundAs r options (Ran start way did stop) rig back = IsFound r options rig back start stop × (r.tells → did.desk.root ≡ root_in (overlay_of r rig))

@@ -18,7 +18,7 @@ use Rattle.v7_map.specs.Weak.{IsWeak}
 use Rattle.v7_damage.specs.Undamaged.{IsFaultOf}
 use Rattle.v7_damage.specs.declared.damage.RepairFault.{RepairFault}
 use Rattle.v7_damage.specs.declared.damage.RepairFault.TheVariants as repair
-use Rattle.volume.specs.Opens.{name_in}
+use Rattle.volume.specs.Opens.{name_in, root_in}
 use Rattle.run_lines.specs.Refusals.{host_status, host_line}
 use Rattle.run_lines.specs.Told.{Said, Told, Loan}
 use Rattle.nfs_worker.specs.Account.{Hold, Grew, history}
@@ -207,7 +207,7 @@ pub record IsServedAs {V : Type 0} (s : StoreGhosts V) (down : Bool) (recovery :
 abbrev pub OpensAs : {V : Type 0} → StoreGhosts V → Bool → Recovery → V → V → Course → Type 0
 OpensAs s down recovery store store' (NoVolume fault) = IsRefusedAs s store store' fault
 OpensAs s down recovery store store' (NoPost start fault stop) = IsServedAs s down recovery store store' start stop
-OpensAs s down recovery store store' (Ran start way did stop) = IsServedAs s down recovery store store' start stop
+OpensAs s down recovery store store' (Ran start way did stop) = IsServedAs s down recovery store store' start stop × (s.tells → did.desk.root ≡ root_in (s.image store))
 OpensAs s down recovery store store' Usage = ⊥
 OpensAs s down recovery store store' (NoRig word fault) = ⊥
 OpensAs s down recovery store store' (NoUnit fault) = ⊥
