@@ -1,11 +1,19 @@
 -- Puts are added to a plan.
-use Rattle.std.proofs.Common.{◌≡◌, ◌≢◌, ℕ, get_or, ◌+◌, ◌<◌, ◌≤◌, List, [], ◌∷◌, ◌++◌, length, subst, sym, ap, arith, length-append}
+use Rattle.std.proofs.Common.{◌≡◌, ◌≢◌, ℕ, zero, suc, Bool, Option, Some, None, ◌∙◌, replicate, get_or, ◌+◌, ◌<◌, ◌≤◌, List, [], ◌∷◌, ◌++◌, length, subst, sym, ap, arith, length-append}
+use Rattle.std.proofs.lemmas.List.{length-replicate}
 use Rattle.std.specs.List.{AllByRecursion}
 use Rattle.v7_map.proofs.Puts.{all_append}
 use Rattle.plan_file.specs.Contents.{Fits}
 use Rattle.files_model.specs.declared.attributes.Attr.{Attr}
 use Rattle.files_model.specs.declared.call.WriteItem.{WriteItem}
-use Rattle.plan_file.specs.Planned.{CanBePut, IsReady, plan_puts}
+use Rattle.files_model.specs.declared.reply.Reply.{Reply}
+use Rattle.files_model.specs.declared.reply.Reply.TheVariants as reply
+use Rattle.files_model.specs.declared.reply.Stat.{Stat}
+use Rattle.files_model.specs.declared.reply.Stat.TheVariants as stat
+use Rattle.plan_file.specs.declared.draft.Draft.{Draft}
+use Rattle.plan_file.specs.Draft.{draft_after, draft_refusal, draft_replies, attr_written, reply_of}
+use Rattle.plan_file.specs.Planned.{CanBePut, HasAnswers, IsReady, IsWriteReply, plan_puts}
+use Rattle.plan_file.proofs.Later.{length-draft_replies}
 use Rattle.plan_file.specs.Places.{AreWithin}
 use Rattle.plan_file.specs.declared.places.Places.{Places}
 
@@ -54,3 +62,38 @@ pub fits-all : (sectors ino : ℕ) (old new : Places) (attr : Attr) (ws : List W
     → Fits sectors 140 none all
 fits-all sectors ino old new attr ws ready none cut contents all still same first second third =
     fits-then sectors 139 1 none contents all (fits-then sectors 1 138 none cut contents first (subst (λ (n : ℕ). Fits n 138 cut contents) same second)) (third sectors (map-within sectors ino old new attr ws ready))
+
+-- ---- what is asked of any store
+
+-- an empty plan can be put
+pub empty-put : (sectors : ℕ) (puts : List (ℕ × List ℕ)) → puts ≡ [] → CanBePut sectors puts
+empty-put sectors puts none = fits-put sectors 0 puts puts (omega arith) none (fits-none sectors 0 puts)
+
+pub stale-forms : (n : ℕ) → AllByRecursion IsWriteReply (replicate n (reply.Refused stat.Stale))
+stale-forms zero = tt
+stale-forms (suc n) = (tt, stale-forms n)
+
+draft-form : (o : Option Stat) (attr : Attr) → IsWriteReply (reply_of o attr)
+draft-form None attr = tt
+draft-form (Some status) attr = tt
+
+draft-forms : (read_only : Bool) (d : Draft) (ws : List WriteItem) (now : ℕ) → AllByRecursion IsWriteReply (draft_replies read_only d ws now)
+draft-forms read_only d [] now = tt
+draft-forms read_only d (w ∷ ws) now =
+    (draft-form (draft_refusal read_only d w) (attr_written d.attr w.offset (length w.bytes) now), draft-forms read_only (draft_after read_only d w now) ws now)
+
+-- each write of a batch has its reply
+pub draft-answers : (sectors : ℕ) (read_only : Bool) (d : Draft) (ws : List WriteItem) (now : ℕ) (puts : List (ℕ × List ℕ)) (replies : List Reply) → replies ≡ draft_replies read_only d ws now
+    → CanBePut sectors puts → HasAnswers sectors (length ws) puts replies
+draft-answers sectors read_only d ws now puts replies are plan = record {
+  plan = plan;
+  count_is = ap length are ∙ length-draft_replies read_only d ws now;
+  forms = subst (AllByRecursion IsWriteReply) (sym are) (draft-forms read_only d ws now);
+}
+
+pub stale-answers : (sectors : ℕ) (n : ℕ) (puts : List (ℕ × List ℕ)) (replies : List Reply) → puts ≡ [] → replies ≡ replicate n (reply.Refused stat.Stale) → HasAnswers sectors n puts replies
+stale-answers sectors n puts replies none are = record {
+  plan = empty-put sectors puts none;
+  count_is = ap length are ∙ length-replicate n (reply.Refused stat.Stale);
+  forms = subst (AllByRecursion IsWriteReply) (sym are) (stale-forms n);
+}

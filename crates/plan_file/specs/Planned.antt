@@ -1,10 +1,11 @@
 -- The plan of a batch, and what is known before it is put together.
 use Rattle.std.specs.Prelude.{◌≡◌, ◌≢◌, ◌<◌, ◌≤◌, ℕ, min, true, List, [], ◌∷◌, ◌++◌, length, get_or}
-use Rattle.std.specs.List.{range_with_len, list_any}
+use Rattle.std.specs.List.{AllByRecursion, range_with_len, list_any}
 use Rattle.files_model.specs.declared.attributes.Attr.{Attr}
 use Rattle.files_model.specs.declared.attributes.FileId.{FileId}
 use Rattle.files_model.specs.declared.call.WriteItem.{WriteItem}
 use Rattle.files_model.specs.declared.reply.Reply.{Reply}
+use Rattle.files_model.specs.declared.reply.Reply.TheVariants as reply
 use Rattle.files_model.specs.Batch.{calls_of, replies_of, cost, touches}
 use Rattle.files_model.specs.Space.{size_limit}
 use Rattle.stable.specs.Puts.{put_all, AllStand, AllPastSuperBlock}
@@ -37,6 +38,18 @@ pub record CanBePut (sectors : ℕ) (puts : List (ℕ × List ℕ)) : Type 0 whe
   pub few : length puts ≤ plan_puts
   pub stand : AllStand sectors puts
   pub past : AllPastSuperBlock puts
+
+-- the replies to a WRITE: a refusal, or attributes
+abbrev pub IsWriteReply : Reply → Type 0
+IsWriteReply (reply.Refused status) = Unit {0}
+IsWriteReply (reply.Attr attr) = Unit {0}
+IsWriteReply _ = ⊥
+
+-- Of any store, told or not: the plan can be put, and each write has its reply.
+pub record HasAnswers (sectors count : ℕ) (puts : List (ℕ × List ℕ)) (replies : List Reply) : Type 0 where
+  pub plan : CanBePut sectors puts
+  pub count_is : length replies ≡ count
+  pub forms : AllByRecursion IsWriteReply replies
 
 -- what the puts of a batch ask for: places within the store and three bytes each, a place for each touched sector, and one for the block of addresses where it changes
 pub record IsReady (sectors ino : ℕ) (from to : Places) (attr : Attr) (ws : List WriteItem) : Type 0 where

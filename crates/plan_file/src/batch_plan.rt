@@ -17,7 +17,7 @@ ghost use Rattle.v7_sets.specs.Sets.{AreSetsOf, AreSpare};
 ghost use Rattle.plan_file.specs.Accepted.{kept_of};
 ghost use Rattle.plan_file.specs.Contents.{Fits};
 ghost use Rattle.plan_file.specs.Free.{HasFewer};
-ghost use Rattle.plan_file.specs.Planned.{AreBatchPuts, IsReady, IsPlanned, CanBePut};
+ghost use Rattle.plan_file.specs.Planned.{AreBatchPuts, IsReady, IsPlanned, CanBePut, HasAnswers};
 
 use crate::decide::decide;
 use crate::filling::{add_contents, add_cut, add_map};
@@ -116,7 +116,7 @@ fn plan_found<S: Stable>(
     requires found { (found.now.inode.size ≤ size_limit) × (inode_sector file.ino < S.sector_count store.old) }
     requires spare { AreSpare (S.sector_count store.old) sets.old.blocks }
     ensures planned { S.tells → IsStrong (frame (S.image store.old)) → AreSetsOf (S.image store.old) sets.old.blocks sets.old.inodes → IsFile (S.image store.old) file found.now → IfOk result (λ r. IsPlanned (S.image store.old) file batch.now now sets.new r.plan r.replies.items) }
-    ensures fits { IfOk result (λ r. CanBePut (S.sector_count store.old) r.plan) }
+    ensures fits { IfOk result (λ r. HasAnswers (S.sector_count store.old) (length batch.now) r.plan r.replies.items) }
     ensures fewer { HasFewer sets.old sets.new }
     ensures kept { OnErr result (sets.new ≡ sets.old) }
     ensures cause { HasCause (S.faults store.old) (S.faults store.new) result }
@@ -165,7 +165,7 @@ pub fn plan_writes<S: Stable>(
     requires few { length batch.now ≤ 16 }
     requires spare { AreSpare (S.sector_count store.old) sets.old.blocks }
     ensures planned { S.tells → IsStrong (frame (S.image store.old)) → AreSetsOf (S.image store.old) sets.old.blocks sets.old.inodes → IfOk result (λ r. IsPlanned (S.image store.old) file batch.now now sets.new r.plan r.replies.items) }
-    ensures fits { IfOk result (λ r. CanBePut (S.sector_count store.old) r.plan) }
+    ensures fits { IfOk result (λ r. HasAnswers (S.sector_count store.old) (length batch.now) r.plan r.replies.items) }
     ensures fewer { HasFewer sets.old sets.new }
     ensures kept { OnErr result (sets.new ≡ sets.old) }
     ensures cause { IsErrOf result PlanFault.Failed → Rose (S.faults store.old) (S.faults store.new) }

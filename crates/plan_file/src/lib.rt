@@ -14,6 +14,7 @@ mod started;
 
 pub use batch_plan::{PlanFault, Planned, plan_writes};
 pub use laws::batch_is_planned;
+pub use places::{Places, file_places};
 
 #[cfg(test)]
 mod tests;

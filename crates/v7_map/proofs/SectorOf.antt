@@ -28,6 +28,10 @@ within-below sectors a some = ⊎_elim
     (λ (ge : sectors ≤ a). absurd (some (λ z. cond (le-ltb a sectors ge z) a 0)))
     (cases_lt a sectors)
 
+-- what was found of an address stands in the store
+pub within-found : {sectors count found : ℕ} (a : ℕ) → found ≡ address_within sectors a → sectors ≡ count → found ≢ 0 → found < count
+within-found {sectors} {count} {found} a is same some = subst (λ n. found < n) same (subst (λ n. n < sectors) (sym is) (within-below sectors a (λ none. some (is ∙ none))))
+
 -- what stands in a block of addresses
 pub listed-some : (image : Image) (block n : ℕ) → block ≢ 0 → listed image block n ≡ field (sector_at image block) (4 * n) 4
 listed-some image block n some z = cond (ne_eqb block 0 some z) 0 (field (sector_at image block) (4 * n) 4)

@@ -11,10 +11,11 @@ use Rattle.v7_map.proofs.Whole.{as_long, whole_image}
 use Rattle.plan_file.specs.Accepted.{kept_of}
 use Rattle.plan_file.specs.declared.draft.Draft.{Draft}
 use Rattle.plan_file.specs.Draft.{holds}
-use Rattle.plan_file.specs.Planned.{IsPlanned, IsReady}
+use Rattle.plan_file.specs.Planned.{CanBePut, IsPlanned, IsReady}
 use Rattle.plan_file.specs.Started.{IsFirst}
 use Rattle.plan_file.proofs.Later.{IsLater, later, enough, length-draft_replies, touched-held, mapped-high, first-high}
 use Rattle.plan_file.proofs.Placing.{laid-body, laid-single, laid-within, changed-held}
+use Rattle.plan_file.proofs.Adding.{draft-answers, empty-put}
 use Rattle.plan_file.proofs.Planning.{none-done, batch-done}
 use Rattle.plan_file.proofs.batch_plan.plan_found.Goals as goal
 
@@ -87,3 +88,15 @@ returns-clause-planned g c = λ tells strong are is.
     c.decide-replies.new.draft c.decide-replies.ensures.draft c.as_slice-2.result.now c.as_slice-2.ensures.value some
     c.lay_out-target.result c.lay_out-target.ensures (S.image c.file_places.new.store) c.in_ok-places.ensures.looked.image c.add_puts.new.plan (c.in_ok-add_puts.ensures.added tells)
     c.take_new.new.blocks c.take_new.ensures
+
+pub returns-then-not-any_accepted-clause-fits : goal.returns-then-not-any_accepted-clause-fits
+returns-then-not-any_accepted-clause-fits g c =
+    let sectors = g.S.Stable.sector_count c.args.store.now in
+    draft-answers sectors c.args.found.now.read_only c.first_draft-draft.result c.args.batch.now c.args.now c.args.plan c.decide-replies.result.items c.decide-replies.ensures.replies
+    (empty-put sectors c.args.plan c.requires.empty)
+
+pub returns-clause-fits : goal.returns-clause-fits
+returns-clause-fits g c =
+    let sectors = g.S.Stable.sector_count c.args.store.now in
+    draft-answers sectors c.args.found.now.read_only c.first_draft-draft.result c.args.batch.now c.args.now c.add_puts.new.plan c.decide-replies.result.items c.decide-replies.ensures.replies
+    (subst (λ (n : ℕ). CanBePut n c.add_puts.new.plan) c.in_ok-places.ensures.looked.sectors c.in_ok-add_puts.ensures.fits)
