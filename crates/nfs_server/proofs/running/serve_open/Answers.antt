@@ -1,4 +1,4 @@
-use Rattle.std.proofs.Common.{arith, ◌++◌, ◌∙◌, ℕ, [], ◌∷◌, List, Err, refl, sym, ap, subst}
+use Rattle.std.proofs.Common.{arith, ◌≡◌, ◌++◌, ◌∙◌, ℕ, [], ◌∷◌, List, Err, refl, sym, ap, subst}
 use Rattle.stable.specs.Counts.{Rose, RoseBy}
 use Rattle.stable.specs.declared.snapshot.Snapshot.{Snapshot}
 use Rattle.nfs_worker.specs.Worker.{Own}
