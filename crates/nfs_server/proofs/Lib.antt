@@ -1,9 +1,7 @@
-pub mod Cutting
 pub mod Devices
 pub mod Endings
 pub mod Founds
-pub mod Loans
 pub mod Overlays
-pub mod Sayings
+pub mod Statuses
 pub mod Stops
 pub mod Understanding

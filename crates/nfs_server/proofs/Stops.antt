@@ -1,65 +1,95 @@
 -- How a volume on a store was started and stopped, one run after another.
-use Rattle.std.proofs.Common.{arith, ◌≡◌, ◌∙◌, ℕ, ◌≤◌, Bool, true, List, [], ◌∷◌, refl, sym, ap, subst}
+use Rattle.std.proofs.Common.{arith, ◌≡◌, ◌≢◌, ◌⊎◌, inl, inr, ◌∙◌, ℕ, ◌≤◌, Bool, true, false, List, [], ◌∷◌, refl, sym, ap, subst}
+use Rattle.index_sets.specs.Free.{count_free}
 use Rattle.stable.specs.Counts.{RoseBy, Rose}
-use Rattle.stable.specs.Looked.{Looked, KeepsImage}
-use Rattle.stable.specs.declared.snapshot.Snapshot.{Snapshot}
+use Rattle.stable.specs.States.{StaysOrFails}
+use Rattle.stable.specs.Store.{Image}
+use Rattle.stable.specs.declared.state.State.TheVariants.{Up}
 use Rattle.stable.specs.declared.store.Stable.{Ghosts}
-use Rattle.nfs_worker.specs.Tending.{IsError}
-use Rattle.nfs_server.specs.Course.{Course, Start, Stop, IsStopped, StopsAs, stop_of, Usage, NoRig, NoUnit, NoVolume, NoPost, Ran}
-use Rattle.nfs_server.specs.Run.{IsRun, RunsAs, OpensAs, EachPair}
+use Rattle.v7_layout.specs.declared.super_block.Super.{Super}
+use Rattle.v7_map.specs.Frame.{Frame, frame}
+use Rattle.v7_map.specs.Weak.{IsWeak, IsStrong}
+use Rattle.v7_damage.specs.declared.damage.RepairFault.{RepairFault}
+use Rattle.v7_damage.specs.declared.damage.RepairFault.TheVariants as repair
+use Rattle.v7_make.specs.Chains.{IsChained}
+use Rattle.v7_sets.specs.Sets.{AreSetsOf}
+use Rattle.volume.specs.Keeps.{MayOpen}
+use Rattle.volume.specs.Opens.{Refuses, name_in}
+use Rattle.volume.proofs.Resting.{sets_stay}
+use Rattle.nfs_server.specs.Course.{Course, Start, Stop, Usage, NoRig, NoUnit, NoVolume, NoPost, Ran}
+use Rattle.nfs_server.specs.Run.{IsRun, IsRefusedAs, IsServedAs, RunsAs, OpensAs, EachPair}
+use Rattle.nfs_server.specs.Stopped.{IsStoppedCleanly, StopsAs}
 use Rattle.nfs_server.specs.declared.starting.Recovery.{Recovery}
-use Rattle.v7_map.specs.Damage.{Sizes, passes}
-use Rattle.v7_map.specs.Frame.{frame}
-use Rattle.volume.specs.Opens.{name_in}
 
-abbrev IsErrorIn : Snapshot → Type 0
-IsErrorIn snapshot = IsError snapshot.state
-
--- what a stopped volume shows
-pub stops_as : {first before now : ℕ} {old new : Snapshot} (shown : Snapshot) → shown ≡ new → RoseBy 0 first before → IsStopped before now old new → StopsAs first now new (stop_of shown)
-stops_as {first} {before} {now} {old} {new} shown is later stopped = record {
-  state = ap (λ (s : Snapshot). s.state) is;
-  dirty = ap (λ (s : Snapshot). s.dirty) is;
-  down = λ none. ap (λ (s : Snapshot). s.state) is ∙ stopped.down (sym (ap (λ (s : Snapshot). s.dirty) is) ∙ none);
-  error = λ some. subst (λ (s : Snapshot). IsErrorIn s) (sym is) (stopped.error (subst (λ (s : Snapshot). 1 ≤ s.dirty) is some));
-  failed = λ some. let rose : Rose before now = stopped.failed (subst (λ (s : Snapshot). 1 ≤ s.dirty) is some) in omega (arith, later, rose);
+-- the chain was written of a volume with nothing to mend
+pub stopped_cleanly : (old new : Image) (blocks inodes : List Bool) (now : ℕ) → IsStrong (frame old) → AreSetsOf old blocks inodes → IsChained old new blocks inodes now → IsStoppedCleanly new
+stopped_cleanly old new blocks inodes now strong sets chained = record {
+  strong = subst (λ (f : Frame). IsStrong f) (sym chained.keeps.frame) strong;
+  clean = ap (λ (s : Super). s.s_fmod) chained.stopped;
+  blocks = blocks;
+  inodes = inodes;
+  sets = sets_stay old new blocks inodes chained.keeps.frame (ap (λ files. files.generations) chained.keeps.view) sets;
+  takes = chained.takes;
+  places = chained.places;
+  listed = chained.listed;
+  free_blocks = ap (λ (s : Super). s.s_tfree) chained.stopped;
+  free_inodes = ap (λ (s : Super). s.s_tinode) chained.stopped;
 }
 
--- and since an earlier count
-pub stops_since : {first before now : ℕ} {snapshot : Snapshot} {stop : Stop} → first ≤ before → StopsAs before now snapshot stop → StopsAs first now snapshot stop
-stops_since {first} {before} {now} later stops = record {
-  state = stops.state;
-  dirty = stops.dirty;
-  down = stops.down;
-  error = stops.error;
-  failed = λ some. let rose : Rose before now = stops.failed some in omega (arith, later, rose);
-}
+-- the opening keeps the volume's name
+pub name_stays : (old new : Image) → MayOpen old new → name_in new ≡ name_in old
+name_stays old new (inl same) = ap (λ (i : Image). name_in i) same
+name_stays old new (inr keeps) = keeps.name
 
 module _ {V : Type 0} (s : Ghosts V) where
-  -- a look keeps the image
-  pub looked_keeps : {old new : V} → Looked s old new → KeepsImage s old new
-  looked_keeps looked = record { image = λ told. looked.image; crash = looked.crash; opens = looked.opens; later = looked.later; sectors = looked.sectors }
-
-  -- a run over a store that was looked at before
-  run_looked : {down : Bool} {recovery : Recovery} {store mid store' : V} {start : Start} {stop : Stop} → Looked s store mid → IsRun s down recovery mid store' start stop → IsRun s down recovery store store' start stop
-  run_looked looked run = record {
-    recovered = run.recovered;
-    lost = run.lost;
-    left = run.left ∙ ap (λ (shown : Snapshot). shown.dirty) looked.snapshot;
-    opened = run.opened ∙ ap (λ (shown : Snapshot). shown.state) looked.snapshot;
-    started = run.started;
-    stopped = stops_since looked.later run.stopped;
+  -- and since an earlier store, of which the volume was hurt only where a device failed
+  pub stops_since : {first old new : V} {was is : Bool} {stop : Stop} → RoseBy 0 (s.faults first) (s.faults old) → RoseBy 0 (s.faults old) (s.faults new)
+      → (is ≡ true → was ≡ false → Rose (s.faults first) (s.faults old)) → StopsAs s is old new stop → StopsAs s was first new stop
+  stops_since {first} {old} {new} {was} {is} {stop} before after hurts stops = record {
+    state = stops.state;
+    dirty = stops.dirty;
+    down = stops.down;
+    error = stops.error;
+    hurt = λ hurt sound. case is refl hurt sound;
+    unwritten = λ unwritten. let rose = stops.unwritten unwritten in omega (arith, before, rose);
+    left = λ some. let rose = stops.left some in omega (arith, before, rose);
+    clean = stops.clean;
   }
+    where
+      case : (b : Bool) → is ≡ b → stop.hurt ≡ true → was ≡ false → Rose (s.faults first) (s.faults new)
+      case true e hurt sound = let rose = hurts e sound in omega (arith, rose, after)
+      case false e hurt sound = let rose = stops.hurt hurt e in omega (arith, before, rose)
 
-  -- a volume of that name was found on it
-  pub opens_as : (down : Bool) (recovery : Recovery) {store mid : V} (store' : V) {name : List ℕ} (course : Course) → Looked s store mid → (s.tells → passes (frame (s.image store)) Sizes ≡ true) → (s.tells → name ≡ name_in (s.image store))
-      → RunsAs s down recovery mid store' name course → OpensAs s down recovery store store' course
-  opens_as down recovery store' Usage looked sizes named runs = absurd runs
-  opens_as down recovery store' (NoRig word fault) looked sizes named runs = absurd runs
-  opens_as down recovery store' (NoUnit fault) looked sizes named runs = absurd runs
-  opens_as down recovery store' (NoVolume fault) looked sizes named runs = absurd runs
-  opens_as down recovery store' (NoPost start fault stop) looked sizes named runs = (sizes, (λ told. runs.0 ∙ named told), run_looked looked runs.1)
-  opens_as down recovery store' (Ran start way did stop) looked sizes named runs = (sizes, (λ told. runs.0 ∙ named told), run_looked looked runs.1)
+  -- an opening that was refused
+  pub refused_as : (store store' : V) (fault : RepairFault) → (s.tells → Refuses (s.image store) fault (s.image store')) → (fault ≡ repair.Failed → Rose (s.faults store) (s.faults store')) → IsRefusedAs s store store' fault
+  refused_as store store' (repair.Damaged sector which) refuses failed = record { damage = λ told. (refuses told).0; same = λ told not. (refuses told).1; failed = failed }
+  refused_as store store' repair.Failed refuses failed = record { damage = λ told. tt; same = λ told not. absurd (not refl); failed = failed }
+  refused_as store store' repair.NoMemory refuses failed = record { damage = λ told. tt; same = λ told not. refuses told; failed = failed }
+
+  module _ (down : Bool) (recovery : Recovery) {store mid store' : V} (state : StaysOrFails (s.snapshot_of store).state (s.snapshot_of mid).state (s.faults store) (s.faults mid))
+      (before : RoseBy 0 (s.faults store) (s.faults mid)) (after : RoseBy 0 (s.faults mid) (s.faults store')) where
+    -- a run over a volume that was opened before
+    run_opened : {start : Start} {stop : Stop} → IsRun s down false recovery mid store' start stop → IsRun s down false recovery store store' start stop
+    run_opened {start} {stop} run = record {
+      recovered = run.recovered;
+      lost = run.lost;
+      opened = opened state;
+      started = run.started;
+      stopped = stops_since before after (λ hurt sound. cc) run.stopped;
+    }
+      where
+        opened : StaysOrFails (s.snapshot_of store).state (s.snapshot_of mid).state (s.faults store) (s.faults mid) → (s.snapshot_of store).state ≢ Up → start.opened ≡ (s.snapshot_of store).state
+        opened (inl same) not = run.opened (λ up. not (sym same ∙ up)) ∙ same
+        opened (inr failed) not = absurd (not failed.0)
+
+    -- a volume of that name, which could be mended, was opened on it
+    pub opens_as : {name : List ℕ} (course : Course) → (s.tells → IsWeak (frame (s.image store))) → (s.tells → name ≡ name_in (s.image store)) → RunsAs s down false recovery mid store' name course → OpensAs s down recovery store store' course
+    opens_as Usage weak named runs = absurd runs
+    opens_as (NoRig word fault) weak named runs = absurd runs
+    opens_as (NoUnit fault) weak named runs = absurd runs
+    opens_as (NoVolume fault) weak named runs = absurd runs
+    opens_as (NoPost start fault stop) weak named runs = record { weak = weak; named = λ told. runs.0 ∙ named told; run = run_opened runs.1 }
+    opens_as (Ran start way did stop) weak named runs = record { weak = weak; named = λ told. runs.0 ∙ named told; run = run_opened runs.1 }
 
 -- what holds of each pair, by what it follows from
 pub each_pair : {A : Type 0} {P Q : A → A → Type 0} → ((x y : A) → P x y → Q x y) → (xs : List A) (ys : List (ℕ × A)) → EachPair P xs ys → EachPair Q xs ys

@@ -1,12 +1,8 @@
 -- What was read of the words.
-use Rattle.std.specs.Option.{option_map}
-use Rattle.nfs_server.specs.Words.{Named, Options, Asked}
-use Rattle.nfs_server.specs.declared.words.Named.{Named as NamedWord}
+use Rattle.run_lines.specs.Naming.{named_of}
+use Rattle.nfs_server.specs.Words.{Options, Asked}
 use Rattle.nfs_server.specs.declared.words.Options.{Options as ReadOptions}
 use Rattle.nfs_server.specs.declared.words.Asked.{Asked as ReadWords}
-
-abbrev pub named_of : NamedWord → Named
-named_of named = record { word = named.word.now; disk = named.disk.now; board = option_map (λ board. board.now) named.board }
 
 abbrev pub options_read : ReadOptions → Options
 options_read options = record { turns = options.turns; down = options.down; accept_loss = options.accept_loss }

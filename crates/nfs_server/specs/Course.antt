@@ -1,6 +1,5 @@
 -- How far a run comes, and what it says and answers (docs/CALLS.md, "Lines and statuses").
-use Rattle.std.specs.Prelude.{◌≡◌, ℕ, ◌-◌, ◌≤◌, Bool, true, false, if◌then◌else◌, zero, suc, List, [], ◌∷◌, ◌++◌, length, codes}
-use Rattle.stable.specs.Counts.{Rose}
+use Rattle.std.specs.Prelude.{◌≡◌, ℕ, ◌-◌, Bool, true, false, if◌then◌else◌, nat_lt, ◌||◌, List, [], ◌∷◌, ◌++◌, length, codes}
 use Rattle.stable.specs.declared.battery.Battery.{Battery}
 use Rattle.stable.specs.declared.battery.Battery.TheVariants.{Good, Low}
 use Rattle.stable.specs.declared.snapshot.Snapshot.{Snapshot}
@@ -8,44 +7,46 @@ use Rattle.stable.specs.declared.state.State.{State}
 use Rattle.stable.specs.declared.state.State.TheVariants.{Up, Down, Error}
 use Rattle.rig.specs.declared.host.HostFault.{HostFault}
 use Rattle.presto_recover.specs.declared.fault.OpenFault.{OpenFault as UnitFault}
-use Rattle.volume.specs.declared.fault.OpenFault.{OpenFault as VolumeFault}
-use Rattle.nfs_worker.specs.Tending.{IsError}
+use Rattle.v7_damage.specs.declared.damage.RepairFault.{RepairFault}
 use Rattle.nfs_worker.specs.Turns.{Did, datagrams}
 use Rattle.nfs_worker.specs.declared.turning.Ended.{Ended}
 use Rattle.nfs_worker.specs.declared.turning.Ended.TheVariants as ended
-use Rattle.nfs_server.specs.Lines.{usage_line, opened_line, loss_line, stopped_line, numbers_line, no_volume_line, no_port_line, device_line}
-use Rattle.nfs_server.specs.Refusals.{host_status, host_line, unit_status, unit_line, volume_status, volume_line}
+use Rattle.run_lines.specs.Lines.{no_volume_line, device_line}
+use Rattle.run_lines.specs.Refusals.{host_status, host_line, unit_status, unit_line, volume_status, volume_line}
+use Rattle.nfs_server.specs.Lines.{usage_line, opened_line, loss_line, stopped_line, numbers_line, no_port_line}
 
--- How a volume was started: its name; how many entries of its board were recovered, and how many are left; whether the board's loss was accepted; its state
--- after that, what the battery was read as then, and its state after Up.
+-- How a volume was started: its name; how many entries of its board were recovered; whether the board's loss was accepted; its state after that and the
+-- opening of the volume, what the battery was read as then, and its state after Up.
 pub record Start : Type 0 where
   pub name : List ℕ
   pub recovered : ℕ
-  pub left : ℕ
   pub lost : Bool
   pub opened : State
   pub battery : Battery
   pub state : State
 
--- How it was stopped: its state after Down, and how many entries are left dirty.
+-- How it was stopped: its state after Down, and how many entries are left dirty; whether it was hurt, so that no free chain was to be written; and whether
+-- the writing of its chain failed.
 pub record Stop : Type 0 where
   pub state : State
   pub dirty : ℕ
+  pub hurt : Bool
+  pub unwritten : Bool
 
--- How far a run came: the words aren't of the grammar; the host gave no rig; disk and board weren't opened; there is no volume; the host gave no post; a worker ran.
+-- How far a run came: the words aren't of the grammar; the host gave no rig; disk and board weren't opened; there is no volume that can be mended; the host gave no post; a worker ran.
 pub data Course : Type 0 where
   Usage : Course
   NoRig : List ℕ → HostFault → Course
   NoUnit : UnitFault → Course
-  NoVolume : VolumeFault → Course
+  NoVolume : RepairFault → Course
   NoPost : Start → HostFault → Stop → Course
   Ran : Start → Ended → Did → Stop → Course
 
--- how a snapshot shows a volume that was stopped
-abbrev pub stop_of : Snapshot → Stop
-stop_of snapshot = record { state = snapshot.state; dirty = snapshot.dirty }
+-- how a snapshot shows it
+abbrev pub stop_of : Snapshot → Bool → Bool → Stop
+stop_of snapshot hurt unwritten = record { state = snapshot.state; dirty = snapshot.dirty; hurt = hurt; unwritten = unwritten }
 
--- ---- starting and stopping
+-- ---- starting
 
 -- the state after Up, where it isn't to stay DOWN; the battery is the one that was read
 abbrev pub state_after : Bool → State → Battery → State
@@ -61,32 +62,21 @@ pub record IsStarted (down : Bool) (old new : Snapshot) : Type 0 where
   pub dirty : new.dirty ≡ old.dirty
   pub polls : new.polls ≡ old.polls
 
--- A volume was stopped: it is DOWN exactly where nothing is dirty, and something is dirty only where a device failed.
-pub record IsStopped (before now : ℕ) (old new : Snapshot) : Type 0 where
-  pub down : new.dirty ≡ 0 → new.state ≡ Down
-  pub error : 1 ≤ new.dirty → IsError new.state
-  pub failed : 1 ≤ new.dirty → Rose before now
-  pub polls : new.polls ≡ old.polls
-
--- what is told of a volume that was stopped, since the count of faults was `before`
-pub record StopsAs (before now : ℕ) (snapshot : Snapshot) (stop : Stop) : Type 0 where
-  pub state : stop.state ≡ snapshot.state
-  pub dirty : stop.dirty ≡ snapshot.dirty
-  pub down : stop.dirty ≡ 0 → stop.state ≡ Down
-  pub error : 1 ≤ stop.dirty → IsError stop.state
-  pub failed : 1 ≤ stop.dirty → Rose before now
-
 -- ---- statuses
 
--- what the end of the worker gives, where so many entries are left dirty
+-- a device failed in stopping: the chain isn't written, or something is left dirty
+abbrev pub fails : Stop → Bool
+fails stop = stop.unwritten || nat_lt 0 stop.dirty
+
+-- what the end of the worker gives
 abbrev pub end_status : Ended → ℕ
 end_status ended.Spent = 72
 end_status ended.Closed = 0
 end_status ended.Halted = 0
 
-abbrev pub closing_status : Ended → ℕ → ℕ
-closing_status way zero = end_status way
-closing_status way (suc n) = 74
+-- and after a device failed in stopping
+abbrev pub closing_status : Ended → Bool → ℕ
+closing_status way failed = if failed then 74 else end_status way
 
 abbrev pub status_of : Course → ℕ
 status_of Usage = 64
@@ -94,7 +84,7 @@ status_of (NoRig word fault) = host_status fault
 status_of (NoUnit fault) = unit_status fault
 status_of (NoVolume fault) = volume_status fault
 status_of (NoPost start fault stop) = host_status fault
-status_of (Ran start way did stop) = closing_status way stop.dirty
+status_of (Ran start way did stop) = closing_status way (fails stop)
 
 -- ---- lines
 
@@ -108,18 +98,18 @@ opening_lines name recovered lost state = loss_lines lost ++ opened_line name st
 abbrev pub start_lines : Start → List (List ℕ)
 start_lines start = opening_lines start.name start.recovered start.lost start.state
 
--- what the end of the worker says, where so many entries are left dirty
+-- what the end of the worker says
 abbrev pub end_lines : Ended → List (List ℕ)
 end_lines ended.Spent = codes "turns spent" ∷ []
 end_lines ended.Closed = []
 end_lines ended.Halted = []
 
-abbrev pub last_lines : Ended → ℕ → List (List ℕ)
-last_lines way zero = end_lines way
-last_lines way (suc n) = device_line ∷ []
+-- and what is said after a device failed in stopping
+abbrev pub last_lines : Ended → Bool → List (List ℕ)
+last_lines way failed = if failed then device_line ∷ [] else end_lines way
 
 abbrev pub closing_lines : Stop → Ended → ℕ → ℕ → List (List ℕ)
-closing_lines stop way received answered = stopped_line stop.state stop.dirty ∷ numbers_line received answered (received - answered) ∷ last_lines way stop.dirty
+closing_lines stop way received answered = stopped_line stop.state stop.dirty ∷ numbers_line received answered (received - answered) ∷ last_lines way (fails stop)
 
 abbrev pub lines_of : Course → List (List ℕ)
 lines_of Usage = usage_line ∷ []

@@ -2,7 +2,6 @@ pub mod Asking
 pub mod Course
 pub mod Kept
 pub mod Lines
-pub mod Refusals
 pub mod Run
-pub mod Told
+pub mod Stopped
 pub mod Words

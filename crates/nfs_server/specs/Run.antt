@@ -2,7 +2,7 @@
 use Rattle.std.specs.Prelude.{◌≡◌, ◌≢◌, ◌⊎◌, ℕ, ◌+◌, ◌-◌, ◌≤◌, Bool, true, false, List, [], ◌∷◌, ◌++◌, length, Option, Some, None, IsSome}
 use Rattle.std.specs.List.{flat_map}
 use Rattle.stable.specs.Counts.{Rose, RoseBy}
-use Rattle.stable.specs.Looked.{KeepsImage}
+use Rattle.stable.specs.declared.state.State.TheVariants.{Up}
 use Rattle.stable.specs.declared.store.Stable.{Ghosts as StoreGhosts}
 use Rattle.rig.specs.Hosts.{SameLoans, SameLines}
 use Rattle.rig.specs.Links.{gains}
@@ -13,21 +13,23 @@ use Rattle.rig.specs.declared.host.Post.{Post}
 use Rattle.rig.specs.declared.link.Link.{Ghosts as LinkGhosts}
 use Rattle.rig.specs.declared.rig.Rig.{Ghosts as RigGhosts}
 use Rattle.rig.specs.declared.say.Say.{Ghosts as SayGhosts}
-use Rattle.v7_map.specs.Damage.{Sizes, passes}
 use Rattle.v7_map.specs.Frame.{frame}
-use Rattle.volume.specs.Opens.{HasNoVolume, name_in}
-use Rattle.volume.specs.declared.fault.OpenFault.{OpenFault as VolumeFault}
-use Rattle.volume.specs.declared.fault.OpenFault.TheVariants as volume
+use Rattle.v7_map.specs.Weak.{IsWeak}
+use Rattle.v7_damage.specs.Undamaged.{IsFaultOf}
+use Rattle.v7_damage.specs.declared.damage.RepairFault.{RepairFault}
+use Rattle.v7_damage.specs.declared.damage.RepairFault.TheVariants as repair
+use Rattle.volume.specs.Opens.{name_in}
+use Rattle.run_lines.specs.Refusals.{host_status, host_line}
+use Rattle.run_lines.specs.Told.{Said, Told, Loan}
 use Rattle.nfs_worker.specs.Account.{Hold, Grew, history}
 use Rattle.nfs_worker.specs.Turns.{Did, EndsBy, datagrams}
 use Rattle.nfs_worker.specs.Worker.{Own, owned, worker_of, Works}
 use Rattle.nfs_worker.specs.declared.pass.Numbers.{Numbers}
 use Rattle.nfs_worker.specs.declared.turning.Ended.{Ended}
-use Rattle.nfs_server.specs.Course.{Course, Start, Stop, Usage, NoRig, NoUnit, NoVolume, NoPost, Ran, StopsAs, stop_of, state_after, closing_status, closing_lines, status_of, lines_of, dids_of, rigs_in}
+use Rattle.nfs_server.specs.Course.{Course, Start, Stop, Usage, NoRig, NoUnit, NoVolume, NoPost, Ran, fails, state_after, closing_status, closing_lines, status_of, lines_of, dids_of, rigs_in}
 use Rattle.nfs_server.specs.Kept.{Kept, FoundAs}
 use Rattle.nfs_server.specs.Lines.{no_port_line}
-use Rattle.nfs_server.specs.Refusals.{host_status, host_line}
-use Rattle.nfs_server.specs.Told.{Said, Told, Loan}
+use Rattle.nfs_server.specs.Stopped.{StopsAs}
 use Rattle.nfs_server.specs.Words.{Asked, Options, asked_by}
 use Rattle.nfs_server.specs.declared.starting.Recovery.{Recovery}
 
@@ -110,8 +112,8 @@ pub record RanPost {S R L C P V : Type 0} (h : Ghosts S R L C P) (say : SayGhost
   pub answered : numbers.answered ≡ length did.replies
   pub polled : RoseBy (changes_in c post back) (s.snapshot_of store).polls (s.snapshot_of store').polls
 
--- The worker ran over its post, the volume was stopped, and the closing lines were said.
-pub record ServedPost {S R L C P V : Type 0} (h : Ghosts S R L C P) (say : SayGhosts S) (l : LinkGhosts L) (c : ClockGhosts C) (s : StoreGhosts V) (turns : ℕ) (old new : S) (store store' : V) (post : Post L C P) (result : ℕ) : Type 0 where
+-- The worker ran over its post, the volume was stopped, and the closing lines were said; `was` says whether the volume was hurt before.
+pub record ServedPost {S R L C P V : Type 0} (h : Ghosts S R L C P) (say : SayGhosts S) (l : LinkGhosts L) (c : ClockGhosts C) (s : StoreGhosts V) (turns : ℕ) (was : Bool) (old new : S) (store store' : V) (post : Post L C P) (result : ℕ) : Type 0 where
   pub did : Did
   pub back : Post L C P
   pub holds : List Hold
@@ -126,34 +128,34 @@ pub record ServedPost {S R L C P V : Type 0} (h : Ghosts S R L C P) (say : SayGh
   pub shared : owned 0 (history holds) ≡ did.own
   pub ends : EndsBy way turns did.heard
   pub polled : RoseBy (changes_in c post back) (s.snapshot_of store).polls (s.snapshot_of store').polls
-  pub stopped : StopsAs (s.faults store) (s.faults store') (s.snapshot_of store') stop
-  pub status : result ≡ closing_status way stop.dirty
+  pub stopped : StopsAs s was store store' stop
+  pub status : result ≡ closing_status way (fails stop)
   pub said : Said say old new (closing_lines stop way (datagrams did.heard) (length did.replies))
 
 -- The host gave no post: the volume was stopped.
-pub record RefusedPost {S R L C P V : Type 0} (h : Ghosts S R L C P) (say : SayGhosts S) (s : StoreGhosts V) (fault : HostFault) (old new : S) (store store' : V) (result : ℕ) : Type 0 where
+pub record RefusedPost {S R L C P V : Type 0} (h : Ghosts S R L C P) (say : SayGhosts S) (s : StoreGhosts V) (fault : HostFault) (was : Bool) (old new : S) (store store' : V) (result : ℕ) : Type 0 where
+  pub stop : Stop
   pub told : Told h say old new (host_line no_port_line fault ∷ [])
-  pub keeps : KeepsImage s store store'
-  pub stopped : StopsAs (s.faults store) (s.faults store') (s.snapshot_of store') (stop_of (s.snapshot_of store'))
+  pub grows : Grew s store store' []
+  pub stopped : StopsAs s was store store' stop
   pub status : result ≡ host_status fault
 
--- How a volume on a store was started, and stopped in the end.
-pub record IsRun {V : Type 0} (s : StoreGhosts V) (down : Bool) (recovery : Recovery) (store store' : V) (start : Start) (stop : Stop) : Type 0 where
+-- How a volume on a store was started, and stopped in the end; `was` says whether it was hurt before. A store that isn't UP stays in its state till then.
+pub record IsRun {V : Type 0} (s : StoreGhosts V) (down was : Bool) (recovery : Recovery) (store store' : V) (start : Start) (stop : Stop) : Type 0 where
   pub recovered : start.recovered ≡ recovery.recovered
   pub lost : start.lost ≡ recovery.lost
-  pub left : start.left ≡ (s.snapshot_of store).dirty
-  pub opened : start.opened ≡ (s.snapshot_of store).state
+  pub opened : (s.snapshot_of store).state ≢ Up → start.opened ≡ (s.snapshot_of store).state
   pub started : start.state ≡ state_after down start.opened start.battery
-  pub stopped : StopsAs (s.faults store) (s.faults store') (s.snapshot_of store') stop
+  pub stopped : StopsAs s was store store' stop
 
 -- a volume of that name was started and stopped so
-abbrev pub RunsAs : {V : Type 0} → StoreGhosts V → Bool → Recovery → V → V → List ℕ → Course → Type 0
-RunsAs s down recovery store store' name (NoPost start fault stop) = (start.name ≡ name) × IsRun s down recovery store store' start stop
-RunsAs s down recovery store store' name (Ran start way did stop) = (start.name ≡ name) × IsRun s down recovery store store' start stop
-RunsAs s down recovery store store' name Usage = ⊥
-RunsAs s down recovery store store' name (NoRig word fault) = ⊥
-RunsAs s down recovery store store' name (NoUnit fault) = ⊥
-RunsAs s down recovery store store' name (NoVolume fault) = ⊥
+abbrev pub RunsAs : {V : Type 0} → StoreGhosts V → Bool → Bool → Recovery → V → V → List ℕ → Course → Type 0
+RunsAs s down was recovery store store' name (NoPost start fault stop) = (start.name ≡ name) × IsRun s down was recovery store store' start stop
+RunsAs s down was recovery store store' name (Ran start way did stop) = (start.name ≡ name) × IsRun s down was recovery store store' start stop
+RunsAs s down was recovery store store' name Usage = ⊥
+RunsAs s down was recovery store store' name (NoRig word fault) = ⊥
+RunsAs s down was recovery store store' name (NoUnit fault) = ⊥
+RunsAs s down was recovery store store' name (NoVolume fault) = ⊥
 
 -- What a run over a store did, whose posts came back.
 pub record Served {S R L C P V : Type 0} (h : Ghosts S R L C P) (say : SayGhosts S) (l : LinkGhosts L) (c : ClockGhosts C) (s : StoreGhosts V) (turns : ℕ) (old new : S) (store store' : V) (course : Course) (result : ℕ) : Type 0 where
@@ -173,19 +175,29 @@ pub record Served {S R L C P V : Type 0} (h : Ghosts S R L C P) (say : SayGhosts
   pub host : result ≡ 66 → Rose (h.host_faults old) (h.host_faults new)
   pub later : h.host_faults old ≤ h.host_faults new
 
--- A run over an open volume of that name.
-pub record ServedOpen {S R L C P V : Type 0} (h : Ghosts S R L C P) (say : SayGhosts S) (l : LinkGhosts L) (c : ClockGhosts C) (s : StoreGhosts V) (options : Options) (recovery : Recovery) (name : List ℕ) (old new : S) (store store' : V) (result : ℕ) : Type 0 where
+-- A run over an open volume of that name; `was` says whether it was hurt.
+pub record ServedOpen {S R L C P V : Type 0} (h : Ghosts S R L C P) (say : SayGhosts S) (l : LinkGhosts L) (c : ClockGhosts C) (s : StoreGhosts V) (options : Options) (recovery : Recovery) (name : List ℕ) (was : Bool) (old new : S) (store store' : V) (result : ℕ) : Type 0 where
   pub course : Course
   pub served : Served h say l c s options.turns old new store store' course result
-  pub runs : RunsAs s options.down recovery store store' name course
+  pub runs : RunsAs s options.down was recovery store store' name course
+
+-- There is no volume that can be served on a store: the damage is that of the first test that fails; nothing has changed, or a device failed.
+pub record IsRefusedAs {V : Type 0} (s : StoreGhosts V) (store store' : V) (fault : RepairFault) : Type 0 where
+  pub damage : s.tells → IsFaultOf (s.image store) fault
+  pub same : s.tells → fault ≢ repair.Failed → s.image store' ≡ s.image store
+  pub failed : fault ≡ repair.Failed → Rose (s.faults store) (s.faults store')
+
+-- A volume of that name, which could be mended, was opened on a store, started and stopped so.
+pub record IsServedAs {V : Type 0} (s : StoreGhosts V) (down : Bool) (recovery : Recovery) (store store' : V) (start : Start) (stop : Stop) : Type 0 where
+  pub weak : s.tells → IsWeak (frame (s.image store))
+  pub named : s.tells → start.name ≡ name_in (s.image store)
+  pub run : IsRun s down false recovery store store' start stop
 
 -- what the opening of a volume on a store came to
 abbrev pub OpensAs : {V : Type 0} → StoreGhosts V → Bool → Recovery → V → V → Course → Type 0
-OpensAs s down recovery store store' (NoVolume fault) = (s.tells → HasNoVolume (s.image store) fault) × (fault ≡ volume.Failed → Rose (s.faults store) (s.faults store'))
-OpensAs s down recovery store store' (NoPost start fault stop) =
-    (s.tells → passes (frame (s.image store)) Sizes ≡ true) × (s.tells → start.name ≡ name_in (s.image store)) × IsRun s down recovery store store' start stop
-OpensAs s down recovery store store' (Ran start way did stop) =
-    (s.tells → passes (frame (s.image store)) Sizes ≡ true) × (s.tells → start.name ≡ name_in (s.image store)) × IsRun s down recovery store store' start stop
+OpensAs s down recovery store store' (NoVolume fault) = IsRefusedAs s store store' fault
+OpensAs s down recovery store store' (NoPost start fault stop) = IsServedAs s down recovery store store' start stop
+OpensAs s down recovery store store' (Ran start way did stop) = IsServedAs s down recovery store store' start stop
 OpensAs s down recovery store store' Usage = ⊥
 OpensAs s down recovery store store' (NoRig word fault) = ⊥
 OpensAs s down recovery store store' (NoUnit fault) = ⊥

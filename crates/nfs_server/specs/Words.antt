@@ -2,12 +2,8 @@
 use Rattle.std.specs.Prelude.{ℕ, ◌+◌, ◌-◌, ◌*◌, Bool, true, false, not, ◌&&◌, List, [], ◌∷◌, length, Option, Some, None, nat_eq, nat_le, nat_lt, if◌then◌else◌, codes}
 use Rattle.std.specs.Str.{bytes_eq}
 use Rattle.std.specs.Option.{option_map, option_and_then}
-
--- a disk, and a board in front of it if there is one; `word` is the word that names them
-pub record Named : Type 0 where
-  pub word : List ℕ
-  pub disk : List ℕ
-  pub board : Option (List ℕ)
+use Rattle.run_lines.specs.Naming.{Named, named_by}
+use Rattle.run_lines.specs.Numbers.{number_of}
 
 -- how many turns the worker takes, whether the volume stays DOWN, and whether the loss of its board is accepted
 pub record Options : Type 0 where
@@ -20,36 +16,8 @@ pub record Asked : Type 0 where
   pub volume : Named
   pub options : Options
 
--- one to 200 bytes
-abbrev pub is_part : List ℕ → Bool
-is_part bytes = nat_le 1 (length bytes) && nat_le (length bytes) 200
-
--- the word names a disk; or a disk and another board, where it is cut in two
-abbrev pub named_parts : List ℕ → Option (List ℕ × List ℕ) → Option Named
-named_parts word None = if is_part word then Some (record { word = word; disk = word; board = None }) else None
-named_parts word (Some parts) = if is_part parts.0 && is_part parts.1 && not (bytes_eq parts.0 parts.1) then Some (record { word = word; disk = parts.0; board = Some parts.1 }) else None
-
--- what stands before and after the last colon, of a byte and of what was found in the bytes after it
-abbrev pub cut_with : ℕ → List ℕ → Option (List ℕ × List ℕ) → Option (List ℕ × List ℕ)
-cut_with b bytes (Some parts) = Some (b ∷ parts.0, parts.1)
-cut_with b bytes None = if nat_eq b 58 then Some ([], bytes) else None
-
--- the bytes before and after the last colon, if there is one
-abbrev pub cut_last : List ℕ → Option (List ℕ × List ℕ)
-cut_last [] = None
-cut_last (b ∷ bytes) = cut_with b bytes (cut_last bytes)
-
--- DISK, or DISK:BOARD, cut at the last colon
-abbrev pub named_by : List ℕ → Option Named
-named_by word = named_parts word (cut_last word)
-
 abbrev pub most_turns : ℕ
 most_turns = 1000000000
-
--- the number that decimal digits go on with, none above the most turns
-abbrev pub digits : ℕ → List ℕ → Option ℕ
-digits n [] = Some n
-digits n (b ∷ bytes) = if nat_le 48 b && nat_le b 57 && nat_le (10 * n + (b - 48)) most_turns then digits (10 * n + (b - 48)) bytes else None
 
 -- 0 turns are none
 abbrev pub positive : ℕ → Option ℕ
@@ -57,7 +25,7 @@ positive n = if nat_lt 0 n then Some n else None
 
 -- a number of turns: one to ten decimal digits
 abbrev pub turns_of_text : List ℕ → Option ℕ
-turns_of_text bytes = if nat_le 1 (length bytes) && nat_le (length bytes) 10 then option_and_then positive (digits 0 bytes) else None
+turns_of_text bytes = option_and_then positive (number_of most_turns bytes)
 
 -- the words after `--workers 1`, which says what is so anyway
 abbrev pub without_workers : List (List ℕ) → List (List ℕ)

@@ -2,7 +2,6 @@
 #![tactic(auto)]
 
 mod lines;
-mod refusing;
 mod running;
 mod starting;
 mod telling;

@@ -1,36 +1,11 @@
 //! The lines that are said, without memory.
-ghost use Rattle.std.specs.Prelude.{◌≡◌, ◌+◌, ◌-◌, ◌≤◌, ◌<◌, ◌++◌, length, map};
-ghost use Rattle.nfs_server.specs.Lines.{printed, state_word, opened_line, stopped_line, numbers_line, no_volume_line, strange_line, entry_line};
+ghost use Rattle.std.specs.Prelude.{◌≡◌, ◌-◌, ◌≤◌, length};
+ghost use Rattle.nfs_server.specs.Lines.{state_word, opened_line, stopped_line, numbers_line};
 
-use arrayvec::ArrayString;
 use itoa::Buffer;
 use nfs_worker::Numbers;
+use run_lines::{Line, push_name};
 use stable::State;
-
-/// A line of at most 512 bytes.
-pub type Line = ArrayString<512>;
-
-// A byte of a volume's name, `?` where it can't be printed.
-fn printable(byte: u8) -> char
-    ensures printed { result ≡ printed byte }
-    ensures ascii { result < 128 }
-{
-    if 33 <= byte && byte <= 126 {
-        char::from(byte)
-    } else {
-        '?'
-    }
-}
-
-// Adds the name of a volume.
-fn push_name(line: &mut Line, name: &[u8; 6])
-    requires { length line.old.bytes ≤ 100 }
-    ensures { line.new.bytes ≡ line.old.bytes ++ map printed name.now }
-{
-    for byte in name {
-        line.push(printable(*byte));
-    }
-}
 
 fn state_word(state: State) -> &'static str
     ensures word { result.now ≡ state_word state }
@@ -83,50 +58,5 @@ pub fn numbers_line(numbers: Numbers) -> Line
     line.push_str(number.format(numbers.answered));
     line.push_str(" dropped ");
     line.push_str(number.format(numbers.dropped));
-    line
-}
-
-/// The volume that this word names could not be opened.
-pub fn no_volume_line(word: &str) -> Line
-    requires { length word.now ≤ 401 }
-    ensures { result.bytes ≡ no_volume_line word.now }
-{
-    let mut line = Line::new();
-    line.push_str("cannot open ");
-    line.push_str(word);
-    line
-}
-
-/// The board has this name, and the volume that one.
-pub fn strange_line(board: &[u8; 6], volume: &[u8; 6]) -> Line
-    ensures { result.bytes ≡ strange_line board.now volume.now }
-{
-    let mut line = Line::new();
-    line.push_str("board ");
-    push_name(&mut line, board);
-    line.push_str(" is not of volume ");
-    push_name(&mut line, volume);
-    line
-}
-
-/// This entry of the board of volume 0 is damaged.
-pub fn entry_line(index: u32) -> Line
-    ensures { result.bytes ≡ entry_line index }
-{
-    let mut number = Buffer::new();
-    let mut line = Line::new();
-    line.push_str("board of volume 0: entry ");
-    line.push_str(number.format(index));
-    line.push_str(" bad");
-    line
-}
-
-/// A fixed line.
-pub fn line_of(text: &str) -> Line
-    requires { length text.now ≤ 100 }
-    ensures { result.bytes ≡ text.now }
-{
-    let mut line = Line::new();
-    line.push_str(text);
     line
 }

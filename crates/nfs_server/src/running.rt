@@ -1,19 +1,22 @@
 //! A run of the server, from its words to its status.
 ghost use Rattle.std.specs.Prelude.{◌≡◌, ◌<◌, ◌≤◌, ◌↔◌, None, map, string_bytes};
 ghost use Rattle.rig.specs.Hosts.{SameLoans};
+ghost use Rattle.volume.specs.Mounted.{store_of, name_of, is_hurt};
+ghost use Rattle.volume.specs.Rests.{Rests};
+ghost use Rattle.nfs_worker.specs.Resting.{StaysAtRest};
 ghost use Rattle.nfs_server.specs.Asking.{options_read};
 ghost use Rattle.nfs_server.specs.Run.{RanPost, ServedPost, ServedOpen, ServedVolume, ServedRig, Outcome, RefusedPost};
 ghost use Rattle.nfs_server.specs.Words.{asked_by};
-ghost use Rattle.volume.specs.Mounted.{store_of, name_of};
 
-use crate::lines::{line_of, no_volume_line};
-use crate::refusing::{host_refusal, unit_refusal, volume_refusal};
 use crate::starting::{Recovery, start, stop};
-use crate::telling::{USAGE, close, refuse, tell, tell_start};
+use crate::telling::{USAGE, close, tell_start};
 use crate::words::{Options, read_words};
 use nfs_worker::{Cells, Ended, Numbers, ServerPass, work};
 use presto_recover::{Opened, open};
 use rig::{Host, HostFault, Post, Rig};
+use run_lines::{
+    host_refusal, line_of, no_volume_line, refuse, tell, unit_refusal, volume_refusal,
+};
 use stable::Tended;
 use std::alloc::Global;
 use volume::Volume;
@@ -31,6 +34,8 @@ fn run_worker<H: Host, S: Tended>(
 ) -> (Ended, Numbers)
     requires out { 0 < H.posts_out host.old }
     requires few { turns ≤ 1000000000 }
+    requires rest { Rests S.Stable cells.old.volume }
+    ensures rest { StaysAtRest S.Stable cells.old.volume cells.new.volume }
     ensures ran { RanPost H.Host.own H.Say H.L.Link H.C.Clock S.Stable host.old host.new (store_of cells.old.volume) (store_of cells.new.volume) post turns result.0 result.1 }
 {
     let mut post = post;
@@ -50,24 +55,27 @@ fn serve_post<H: Host, S: Tended>(
 ) -> (u8, S)
     requires out { 0 < H.posts_out host.old }
     requires few { turns ≤ 1000000000 }
-    ensures served { ServedPost H.Host.own H.Say H.L.Link H.C.Clock S.Stable turns host.old host.new (store_of cells.volume) result.1 post result.0 }
+    requires rest { Rests S.Stable cells.volume }
+    ensures served { ServedPost H.Host.own H.Say H.L.Link H.C.Clock S.Stable turns (is_hurt cells.volume) host.old host.new (store_of cells.volume) result.1 post result.0 }
 {
     let mut cells = cells;
     let (ended, numbers) = run_worker(host, &mut cells, post, second, turns);
-    stop(&mut cells.volume);
-    let status = close(host, cells.volume.snapshot(), ended, numbers);
+    let now = host.now();
     let Cells { alloc: _, volume } = cells;
-    (status, volume.into_store())
+    let (store, unwritten) = stop(volume, now);
+    let status = close(host, store.snapshot(), unwritten, ended, numbers);
+    (status, store)
 }
 
 // Stops the volume, since the host gave no post.
 fn refuse_post<H: Host, S: Tended>(host: &mut H, volume: Volume<S>, fault: HostFault) -> (u8, S)
-    ensures { RefusedPost H.Host.own H.Say S.Stable fault host.old host.new (store_of volume) result.1 result.0 }
+    requires { Rests S.Stable volume }
+    ensures { RefusedPost H.Host.own H.Say S.Stable fault (is_hurt volume) host.old host.new (store_of volume) result.1 result.0 }
 {
-    let mut volume = volume;
-    stop(&mut volume);
+    let now = host.now();
+    let (store, _unwritten) = stop(volume, now);
     let status = refuse(host, host_refusal(fault, line_of("cannot open port 2049")));
-    (status, volume.into_store())
+    (status, store)
 }
 
 // Starts an open volume, and runs a worker over it; the second is that of the opening.
@@ -80,7 +88,8 @@ fn serve_open<H: Host, S: Tended>(
     options: Options,
 ) -> (u8, S)
     requires few { options.turns ≤ 1000000000 }
-    ensures served { ServedOpen H.Host.own H.Say H.L.Link H.C.Clock S.Stable (options_read options) recovery (name_of volume) host.old host.new (store_of volume) result.1 result.0 }
+    requires rest { Rests S.Stable volume }
+    ensures served { ServedOpen H.Host.own H.Say H.L.Link H.C.Clock S.Stable (options_read options) recovery (name_of volume) (is_hurt volume) host.old host.new (store_of volume) result.1 result.0 }
 {
     let mut volume = volume;
     start(&mut volume, options.down);
@@ -91,7 +100,7 @@ fn serve_open<H: Host, S: Tended>(
     }
 }
 
-// Opens the volume on a store, and runs a worker over it.
+// Opens the volume on a store, mends what there is to mend, and runs a worker over it.
 fn serve_volume<H: Host, S: Tended>(
     alloc: Global,
     host: &mut H,
@@ -103,9 +112,9 @@ fn serve_volume<H: Host, S: Tended>(
     ensures served { ServedVolume H.Host.own H.Say H.L.Link H.C.Clock S.Stable (options_read options) recovery host.old host.new store result.1 result.0 }
 {
     let second = host.now();
-    match Volume::open(alloc, store) {
+    match Volume::open(alloc, store, second) {
         Err((fault, store)) => (refuse(host, volume_refusal(fault)), store),
-        Ok(volume) => serve_open(alloc, host, volume, second, recovery, options),
+        Ok((volume, _repaired)) => serve_open(alloc, host, volume, second, recovery, options),
     }
 }
 

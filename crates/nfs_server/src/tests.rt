@@ -1,10 +1,14 @@
-//! Runs over memory: the worked WRITE, its refusals, its failures and crashes, what is read, and the ends of a run.
+//! Runs over memory: the worked WRITE, its refusals, its failures and crashes, what is read, damage, and the ends of a run.
 
 mod boards;
 mod calls;
 mod crashes;
+mod damages;
+mod hurts;
 mod outside;
 mod refusals;
 mod runs;
-mod test_volume;
+mod stops;
 mod turns;
+mod volumes;
+mod worked;

@@ -1,19 +1,10 @@
 //! The words of the command line.
-ghost use Rattle.std.specs.Prelude.{◌≡◌, ◌≤◌, ◌+◌, length, MatchOption, IfSome, map, string_bytes, None, Some};
+ghost use Rattle.std.specs.Prelude.{◌≡◌, ◌≤◌, length, MatchOption, IfSome, map, string_bytes, None, Some};
 ghost use Rattle.std.specs.Option.{option_map};
-ghost use Rattle.nfs_server.specs.Words.{asked_by, is_part, named_parts, named_by, digits, turns_of_text, without_workers, turns_in, has_flag, without_flag, options_of, options_in};
-ghost use Rattle.nfs_server.specs.Asking.{named_of, options_read, asked_of};
+ghost use Rattle.nfs_server.specs.Words.{asked_by, turns_of_text, without_workers, turns_in, has_flag, without_flag, options_of, options_in};
+ghost use Rattle.nfs_server.specs.Asking.{options_read, asked_of};
 
-/// A disk, and a board in front of it if there is one.
-#[derive(Clone, Copy)]
-pub struct Named<'a> {
-    /// The word that names them.
-    pub word: &'a str,
-    /// The file of the disk.
-    pub disk: &'a str,
-    /// The file of the board.
-    pub board: Option<&'a str>,
-}
+use run_lines::{Named, read_number, read_volume};
 
 /// What the options say.
 #[derive(Clone, Copy)]
@@ -33,86 +24,15 @@ pub struct Asked<'a> {
     pub options: Options,
 }
 
-const MOST_TURNS: u64 = 1_000_000_000;
-
-fn is_part(name: &str) -> bool
-    ensures { result ≡ is_part name.now }
-{
-    name.len() >= 1 && name.len() <= 200
-}
-
-// A word that names a disk alone.
-fn read_disk(word: &str) -> Option<Named<'_>>
-    ensures named { option_map named_of result ≡ named_parts word.now None }
-    ensures short { IfSome result (λ named. length named.word.now ≤ 401) }
-{
-    if is_part(word) {
-        Some(Named {
-            word,
-            disk: word,
-            board: None,
-        })
-    } else {
-        None
-    }
-}
-
-// A word that names a disk and a board.
-fn read_both<'a>(word: &'a str, disk: &'a str, board: &'a str) -> Option<Named<'a>>
-    requires { length word.now ≤ length disk.now + length board.now + 1 }
-    ensures named { option_map named_of result ≡ named_parts word.now (Some (disk.now, board.now)) }
-    ensures short { IfSome result (λ named. length named.word.now ≤ 401) }
-{
-    if is_part(disk) && is_part(board) && disk != board {
-        Some(Named {
-            word,
-            disk,
-            board: Some(board),
-        })
-    } else {
-        None
-    }
-}
-
-// The disk and the board that a word names.
-fn read_volume(word: &str) -> Option<Named<'_>>
-    ensures named { option_map named_of result ≡ named_by word.now }
-    ensures short { IfSome result (λ named. length named.word.now ≤ 401) }
-{
-    match word.rfind(':') {
-        None => read_disk(word),
-        Some(at) => read_both(word, &word[..at], &word[at + 1..]),
-    }
-}
-
-// A number of digits alone, none above the most turns.
-fn number(text: &[u8]) -> Option<u64>
-    ensures number { result ≡ digits 0 text.now }
-    ensures few { IfSome result (λ n. n ≤ 1000000000) }
-{
-    let mut n = 0u64;
-    for b in text {
-        if *b < b'0' || *b > b'9' {
-            return None;
-        }
-        n = 10 * n + (*b - b'0') as u64;
-        if n > MOST_TURNS {
-            return None;
-        }
-    }
-    Some(n)
-}
+const MOST_TURNS: u32 = 1_000_000_000;
 
 // A number of turns, of one to ten digits.
 fn turns(text: &[u8]) -> Option<u64>
     ensures turns { result ≡ turns_of_text text.now }
     ensures few { IfSome result (λ n. n ≤ 1000000000) }
 {
-    if text.is_empty() || text.len() > 10 {
-        return None;
-    }
-    let turns = number(text)?;
-    if turns > 0 { Some(turns) } else { None }
+    let turns = read_number(text, MOST_TURNS)?;
+    if turns > 0 { Some(turns as u64) } else { None }
 }
 
 // The words after `--workers 1`.

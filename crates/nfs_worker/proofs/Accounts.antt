@@ -5,13 +5,15 @@ use Rattle.files_model.specs.History.{Event, after, after_event, IsLegal, failur
 use Rattle.files_model.specs.History.Event.{Done, Failed, Cut}
 use Rattle.stable.specs.Counts.{RoseBy}
 use Rattle.stable.specs.Moments.{IsClocked, LeavesOnly}
-use Rattle.stable.proofs.Clocked.{started, goes_on, weaker}
+use Rattle.stable.proofs.Clocked.{started, goes_on, weaker, ends}
 use Rattle.stable.specs.Looked.{KeepsImage}
 use Rattle.stable.specs.Store.{Image, StaysOpenable}
 use Rattle.stable.specs.declared.store.Stable.{Ghosts}
 use Rattle.v7_map.specs.Frame.{frame}
 use Rattle.v7_map.specs.View.{view}
-use Rattle.v7_map.specs.Weak.{IsStrong}
+use Rattle.v7_map.specs.Weak.{IsWeak}
+use Rattle.v7_mend.specs.Keeps.{SameFiles}
+use Rattle.volume.specs.Keeps.{MayOpen, SameVolume}
 use Rattle.nfs_worker.specs.Account.{Hold, history, StandsFor, IsRecovered, Lasts, MarksWithin, HasGrown, Grew}
 
 pub after-append : (files : Files) (xs ys : List Event) → after files (xs ++ ys) ≡ after (after files xs) ys
@@ -81,87 +83,114 @@ lasts_both past since mid from files then (x ∷ xs) ys is before each marks p q
 rose_both : (m n a b c : ℕ) → RoseBy m a b → RoseBy n b c → RoseBy (m + n) a c
 rose_both m n a b c p q = omega (arith, p, q)
 
+-- an image that is the same
+kept : (old image : Image) → image ≡ old → IsWeak (frame old) → SameFiles old image
+kept old image is weak = subst (λ (x : Image). SameFiles old x) (sym is) (record { weak = weak; view = refl })
+
+-- at a moment of an opening
+mended : (old image : Image) → MayOpen old image → IsWeak (frame old) → SameFiles old image
+mended old image (inl is) weak = kept old image is weak
+mended old image (inr same) weak = same.files
+
 module _ {S : Type 0} (s : Ghosts S) (clocked : IsClocked s.tells s.image s.moment s.left_since) where
   -- nothing happened
   pub grew_none : (old : S) → Grew s old old []
   grew_none old = record {
-    grown = λ told strong. record { legal = tt; view_is = refl; strong = strong };
+    grown = λ told weak. record { legal = tt; view_is = refl; weak = weak };
     io = omega arith;
     marked = omega arith;
-    crash = started clocked old _ (λ told strong. record { weak = strong.weak; stands = refl });
-    lasts = λ told strong. tt;
-    opens = λ t le opens. opens;
+    crash = started clocked old _ (λ told weak. record { weak = weak; stands = refl });
+    lasts = λ told weak. tt;
+    opens = λ told t le opens. opens;
   }
 
   -- One hold that meets its own clause: its events are legal, and a crash in it leaves them torn.
   pub grew_hold : (old new : S) (events : List Event)
-      → (s.tells → IsStrong (frame (s.image old)) → HasGrown (view (s.image old)) (s.image new) events)
+      → (s.tells → IsWeak (frame (s.image old)) → HasGrown (view (s.image old)) (s.image new) events)
       → RoseBy (failures events) (s.faults old) (s.faults new)
-      → LeavesOnly s.moment s.left_since old new (λ d. IsStrong (frame (s.image old)) → IsRecovered (view (s.image old)) (record { events = events; mark = s.moment new } ∷ []) d)
-      → StaysOpenable s.opens_since s.moment old new
+      → LeavesOnly s.moment s.left_since old new (λ d. IsWeak (frame (s.image old)) → IsRecovered (view (s.image old)) (record { events = events; mark = s.moment new } ∷ []) d)
+      → (s.tells → StaysOpenable s.opens_since s.moment old new)
       → Grew s old new (record { events = events; mark = s.moment new } ∷ [])
   grew_hold old new events grown io crash opens =
       let all : events ++ [] ≡ events = append-nil events in
       record {
-        grown = λ told strong. subst (λ (es : List Event). HasGrown (view (s.image old)) (s.image new) es) (sym all) (grown told strong);
+        grown = λ told weak. subst (λ (es : List Event). HasGrown (view (s.image old)) (s.image new) es) (sym all) (grown told weak);
         io = subst (λ (es : List Event). RoseBy (failures es) (s.faults old) (s.faults new)) (sym all) io;
         marked = (crash.later, omega arith);
         crash = crash;
-        lasts = λ told strong. (
+        lasts = λ told weak. (
           (λ d left.
               let same : d ≡ s.image new = clocked.only new d left in
-              let g = grown told strong in
-              subst (λ (x : Image). IsRecovered (after (view (s.image old)) events) [] x) (sym same) (record { weak = g.strong.weak; stands = g.view_is })),
+              let g = grown told weak in
+              subst (λ (x : Image). IsRecovered (after (view (s.image old)) events) [] x) (sym same) (record { weak = g.weak; stands = g.view_is })),
           tt,
         );
         opens = opens;
       }
 
-  -- device calls without a hold: no sector has changed
-  pub grew_idle : {old new : S} → KeepsImage s old new → Grew s old new []
-  grew_idle {old} {new} keeps = record {
-    grown = λ told strong. record {
-      legal = tt;
-      view_is = ap (λ (d : Image). view d) (keeps.image told);
-      strong = subst (λ (d : Image). IsStrong (frame d)) (sym (keeps.image told)) strong;
-    };
-    io = omega (arith, keeps.later);
-    marked = keeps.crash.later;
-    crash = weaker keeps.crash (λ d left is strong. subst (λ (x : Image). IsRecovered (view (s.image old)) [] x) (sym is) (record { weak = strong.weak; stands = refl }));
-    lasts = λ told strong. tt;
-    opens = keeps.opens;
+  -- device calls without a hold, as those of a look, a repair, an opening and a stopping: the files stay
+  pub grew_same : {old new : S} → (s.tells → IsWeak (frame (s.image old)) → SameFiles (s.image old) (s.image new)) → s.faults old ≤ s.faults new
+      → LeavesOnly s.moment s.left_since old new (λ d. IsWeak (frame (s.image old)) → SameFiles (s.image old) d) → (s.tells → StaysOpenable s.opens_since s.moment old new) → Grew s old new []
+  grew_same {old} {new} same later crash opens = record {
+    grown = λ told weak. let files = same told weak in record { legal = tt; view_is = files.view; weak = files.weak };
+    io = omega (arith, later);
+    marked = crash.later;
+    crash = weaker crash (λ d left is weak. let files = is weak in record { weak = files.weak; stands = files.view });
+    lasts = λ told weak. tt;
+    opens = opens;
   }
+
+  -- no sector has changed
+  pub grew_idle : {old new : S} → KeepsImage s old new → Grew s old new []
+  grew_idle {old} {new} keeps = grew_same
+      (λ told weak. kept (s.image old) (s.image new) (keeps.image told) weak)
+      keeps.later
+      (weaker keeps.crash (λ d left is weak. kept (s.image old) d is weak))
+      (λ told. keeps.opens)
+
+  -- an opening, done or refused: at each moment nothing has changed, or the files are the same
+  pub grew_opened : {old new : S} → s.faults old ≤ s.faults new → LeavesOnly s.moment s.left_since old new (MayOpen (s.image old))
+      → (s.tells → StaysOpenable s.opens_since s.moment old new) → Grew s old new []
+  grew_opened {old} {new} later crash opens = grew_same
+      (λ told weak. mended (s.image old) (s.image new) (ends clocked crash told) weak)
+      later
+      (weaker crash (λ d left is weak. mended (s.image old) d is weak))
+      opens
+
+  -- a stopping: the files are the same
+  pub grew_stopped : {old new : S} → s.faults old ≤ s.faults new → LeavesOnly s.moment s.left_since old new (SameVolume (s.image old)) → (s.tells → StaysOpenable s.opens_since s.moment old new) → Grew s old new []
+  grew_stopped {old} {new} later crash opens = grew_same (λ told weak. (ends clocked crash told).files) later (weaker crash (λ d left is weak. is.files)) opens
 
   -- one run of holds and then another
   pub grew_both : {a b c : S} (xs ys : List Hold) → Grew s a b xs → Grew s b c ys → Grew s a c (xs ++ ys)
   grew_both {a} {b} {c} xs ys p q = record {
-    grown = λ told strong.
-        let g = p.grown told strong in
-        let h = q.grown told g.strong in
+    grown = λ told weak.
+        let g = p.grown told weak in
+        let h = q.grown told g.weak in
         record {
           legal = subst (IsLegal (view (s.image a))) (sym (history-append xs ys)) (legal-append (view (s.image a)) (history xs) (history ys) g.legal (subst (λ (f : Files). IsLegal f (history ys)) g.view_is h.legal));
           view_is = h.view_is ∙ ap (λ (f : Files). after f (history ys)) g.view_is ∙ sym (after-append (view (s.image a)) (history xs) (history ys)) ∙ ap (after (view (s.image a))) (sym (history-append xs ys));
-          strong = h.strong;
+          weak = h.weak;
         };
     io = subst (λ (n : ℕ). RoseBy n (s.faults a) (s.faults c)) (sym (failures-append (history xs) (history ys)) ∙ ap failures (sym (history-append xs ys))) (rose_both (failures (history xs)) (failures (history ys)) (s.faults a) (s.faults b) (s.faults c) p.io q.io);
     marked = marks_both (s.moment a) (s.moment b) (s.moment c) xs ys p.marked q.marked;
-    crash = goes_on (weaker p.crash (λ d left is strong. recovered_left (view (s.image a)) xs ys d (is strong))) q.crash (λ d left is strong.
+    crash = goes_on (weaker p.crash (λ d left is weak. recovered_left (view (s.image a)) xs ys d (is weak))) q.crash (λ d left is weak.
         let told = clocked.told c (s.moment b) d left in
-        let g = p.grown told strong in
-        recovered_right (view (s.image a)) (view (s.image b)) xs ys d g.view_is (is g.strong));
-    lasts = λ told strong.
-        let g = p.grown told strong in
+        let g = p.grown told weak in
+        recovered_right (view (s.image a)) (view (s.image b)) xs ys d g.view_is (is g.weak));
+    lasts = λ told weak.
+        let g = p.grown told weak in
         lasts_both (s.left_since b) (s.left_since c) (s.moment b) (s.moment a) (view (s.image a)) (view (s.image b)) xs ys g.view_is
         (λ t d early left. q.crash.before t d early left)
-        (λ d left. q.crash.each d left g.strong)
-        p.marked (p.lasts told strong) (q.lasts told g.strong);
-    opens = λ t le opens. q.opens t (omega (arith, le, p.crash.later)) (p.opens t le opens);
+        (λ d left. q.crash.each d left g.weak)
+        p.marked (p.lasts told weak) (q.lasts told g.weak);
+    opens = λ told t le opens. q.opens told t (omega (arith, le, p.crash.later)) (p.opens told t le opens);
   }
 
   -- device calls before a run of holds
-  pub grew_before : {a b c : S} (holds : List Hold) → KeepsImage s a b → Grew s b c holds → Grew s a c holds
-  grew_before holds keeps grows = grew_both [] holds (grew_idle keeps) grows
+  pub grew_before : {a b c : S} (holds : List Hold) → Grew s a b [] → Grew s b c holds → Grew s a c holds
+  grew_before holds before grows = grew_both [] holds before grows
 
   -- and after it
-  pub grew_after : {a b c : S} (holds : List Hold) → Grew s a b holds → KeepsImage s b c → Grew s a c holds
-  grew_after {a} {c = c} holds grows keeps = subst (λ (hs : List Hold). Grew s a c hs) (append-nil holds) (grew_both holds [] grows (grew_idle keeps))
+  pub grew_after : {a b c : S} (holds : List Hold) → Grew s a b holds → Grew s b c [] → Grew s a c holds
+  grew_after {a} {c = c} holds grows after = subst (λ (hs : List Hold). Grew s a c hs) (append-nil holds) (grew_both holds [] grows after)

@@ -3,8 +3,8 @@ pub mod Reactions
 pub mod Counts
 pub mod Lists
 pub mod Meanings
-pub mod Offers
 pub mod OneHold
+pub mod Resting
 pub mod Tendings
 pub mod Turns
 pub mod Workers

@@ -1,5 +1,5 @@
 -- A call that was made is one event of one hold.
-use Rattle.std.proofs.Common.{◌≡◌, ℕ, ◌≤◌, [], ◌∷◌, true, refl, sym, inl, arith, length}
+use Rattle.std.proofs.Common.{◌≡◌, ℕ, ◌≤◌, [], ◌∷◌, Bool, true, refl, sym, inl, arith, length}
 use Rattle.files_model.specs.declared.call.Call.{Call}
 use Rattle.files_model.specs.declared.call.Call.TheVariants as call
 use Rattle.files_model.specs.declared.reply.Reply.{Reply}
@@ -12,15 +12,17 @@ use Rattle.stable.specs.Store.{StaysOpenable}
 use Rattle.stable.specs.declared.store.Stable.{Ghosts}
 use Rattle.stable.specs.Moments.{IsClocked}
 use Rattle.stable.proofs.Clocked.{weaker}
+use Rattle.v7_map.specs.Frame.{frame}
 use Rattle.v7_map.specs.View.{view}
+use Rattle.v7_map.specs.Weak.{IsWeak}
 use Rattle.nfs2_wire.specs.Replies.{bytes_of, longest_of}
 use Rattle.nfs2_wire.proofs.Lengths.{short_fits, data_fits}
 use Rattle.volume.specs.declared.outcome.Outcome.TheVariants as outcome
 use Rattle.nfs_worker.specs.declared.releasing.Ready.{Ready}
 use Rattle.nfs_worker.specs.Account.{Grew}
-use Rattle.volume.specs.Applied.{HasForm, IsApplied}
+use Rattle.volume.specs.Applied.{HasForm, Applies}
 use Rattle.nfs_worker.specs.Served.{IsServed}
-use Rattle.nfs_worker.proofs.Accounts.{grew_hold}
+use Rattle.nfs_worker.proofs.Accounts.{grew_hold, grew_same}
 
 -- the bytes of a reply fit the room of its call
 pub reply_fits : (xid : ℕ) (c : Call) (r : Reply) → has_row c ≡ true → HasForm c r → length (bytes_of xid r 0) ≤ longest_of c
@@ -39,16 +41,17 @@ pub refusal_fits : (xid : ℕ) (c : Call) → has_row c ≡ true → length (byt
 refusal_fits xid c row = reply_fits xid c (reply.Refused stat.Io) row tt
 
 module _ {S : Type 0} (s : Ghosts S) (clocked : IsClocked s.tells s.image s.moment s.left_since)
-    (old new : S) (number now : ℕ) (item : Item) (row : has_row item.call ≡ true) (opens : StaysOpenable s.opens_since s.moment old new) where
-  -- a reply
+    (old new : S) (was is : Bool) (number now : ℕ) (item : Item) (row : has_row item.call ≡ true) (weak : s.tells → IsWeak (frame (s.image new)))
+    (opens : s.tells → StaysOpenable s.opens_since s.moment old new) where
+  -- a reply, of a volume that was hurt or not
   pub served_reply : (r : Reply) (ready : Ready) → ready.to ≡ item.from → ready.bytes ≡ bytes_of item.xid r 0
-      → IsApplied s.tells s.image s.faults s.moment s.left_since old new item.call item.cred now (outcome.Reply r) → IsServed s old new number now item ready
+      → Applies s old new was is item.call item.cred now (outcome.Reply r) → IsServed s old new number now item ready
   served_reply r ready to bytes applied = record {
     event = Done number item now r;
     grows = grew_hold s clocked old new (Done number item now r ∷ [])
-        (λ told strong. let done = applied.leaves told strong in record { legal = ((row, done.reply_is), tt); view_is = done.view_is; strong = done.strong })
+        (λ told found. let done = applied.leaves told in record { legal = ((row, done.0), tt); view_is = done.1; weak = weak told })
         (let cause = applied.cause in omega arith)
-        (weaker applied.crash (λ d left is strong. let torn = is strong in record { weak = torn.weak; stands = inl torn.torn }))
+        (weaker applied.crash (λ d left at found. record { weak = at.files.weak; stands = inl at.files.torn }))
         opens;
     item_is = refl;
     worker_is = refl;
@@ -56,17 +59,17 @@ module _ {S : Type 0} (s : Ghosts S) (clocked : IsClocked s.tells s.image s.mome
     reply_is = λ z. (sym to z, sym bytes z) ∷ [];
   }
 
-  -- the device failed
+  -- the device failed, in the mend or in the call
   pub served_io : (ready : Ready) → ready.to ≡ item.from → ready.bytes ≡ bytes_of item.xid (reply.Refused stat.Io) 0
-      → IsApplied s.tells s.image s.faults s.moment s.left_since old new item.call item.cred now outcome.Io → IsServed s old new number now item ready
+      → Applies s old new was is item.call item.cred now outcome.Io → IsServed s old new number now item ready
   served_io ready to bytes applied =
       let event : Event = Failed number (item ∷ []) now (view (s.image new)) in
       record {
         event = event;
         grows = grew_hold s clocked old new (event ∷ [])
-            (λ told strong. let torn = applied.leaves told strong in record { legal = (torn.torn, tt); view_is = refl; strong = torn.strong })
-            applied.cause
-            (weaker applied.crash (λ d left is strong. let torn = is strong in record { weak = torn.weak; stands = inl torn.torn }))
+            (λ told found. record { legal = (applied.leaves told, tt); view_is = refl; weak = weak told })
+            applied.cause.1
+            (weaker applied.crash (λ d left at found. record { weak = at.files.weak; stands = inl at.files.torn }))
             opens;
         item_is = refl;
         worker_is = refl;
@@ -74,13 +77,10 @@ module _ {S : Type 0} (s : Ghosts S) (clocked : IsClocked s.tells s.image s.mome
         reply_is = λ z. (sym to z, sym bytes z) ∷ [];
       }
 
-  -- there was no memory
-  pub served_nothing : IsApplied s.tells s.image s.faults s.moment s.left_since old new item.call item.cred now outcome.NoMemory → Grew s old new []
-  served_nothing applied = record {
-    grown = λ told strong. let kept = applied.leaves told strong in record { legal = tt; view_is = kept.view_is; strong = kept.strong };
-    io = let cause = applied.cause in omega arith;
-    marked = applied.crash.later;
-    crash = weaker applied.crash (λ d left is strong. let untouched = is strong in record { weak = untouched.weak; stands = untouched.view_is });
-    lasts = λ told strong. tt;
-    opens = opens;
-  }
+  -- there was no memory: the volume may be mended now, and there is no event
+  pub served_nothing : Applies s old new was is item.call item.cred now outcome.NoMemory → Grew s old new []
+  served_nothing applied = grew_same s clocked
+      (λ told found. record { weak = weak told; view = applied.leaves told })
+      applied.cause
+      (weaker applied.crash (λ d left at found. record { weak = at.files.weak; view = at.files.view_is }))
+      opens

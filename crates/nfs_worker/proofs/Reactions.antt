@@ -28,7 +28,7 @@ use Rattle.nfs_worker.specs.declared.turning.DropCause.TheVariants as cause
 use Rattle.nfs_worker.specs.declared.turning.Turn.{Turn}
 use Rattle.nfs_worker.specs.declared.turning.Turn.TheVariants as turn
 use Rattle.nfs_worker.proofs.Counts.{rose_earlier}
-use Rattle.nfs_worker.proofs.Offers.{offers_nothing, offers_one, offers_fails}
+use Rattle.rig.proofs.Offers.{offers_nothing, offers_one, offers_fails}
 use Rattle.nfs_worker.proofs.Turns.{IsTaken, works_silent, works_outside, works_event}
 
 -- ---- what a datagram means

@@ -28,7 +28,7 @@ use Rattle.nfs_worker.specs.declared.turning.Ended.{Ended}
 use Rattle.nfs_worker.specs.declared.turning.Ended.TheVariants as ended
 use Rattle.nfs_worker.proofs.Accounts.{grew_none, grew_idle, grew_both, history-append}
 use Rattle.nfs_worker.proofs.Lists.{hears_one, mixes_first, mixes_second}
-use Rattle.nfs_worker.proofs.Offers.{leaves_none, leaves_all, offers_nothing}
+use Rattle.rig.proofs.Offers.{leaves_none, leaves_all, offers_nothing}
 use Rattle.nfs_worker.proofs.Tendings.{polls_more}
 use Rattle.nfs_worker.proofs.Workers.{works_nothing, works_both, owned-append, all-append}
 

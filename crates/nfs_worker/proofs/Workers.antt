@@ -5,11 +5,11 @@ use Rattle.std.proofs.lemmas.List.Elements.{filter_map-append}
 use Rattle.files_model.specs.declared.address.Address.{Address}
 use Rattle.files_model.specs.History.{Event}
 use Rattle.rig.specs.Links.{Heard}
-use Rattle.nfs_worker.specs.Offers.LeavesOut.{none}
+use Rattle.rig.specs.Offers.LeavesOut.{none}
 use Rattle.nfs_worker.specs.Worker.{worker_at, Worker, Own, owned, Works, request_in, outside_in, requests_of, replies_of}
 use Rattle.nfs_worker.specs.Worker.Mixes.{neither}
 use Rattle.nfs_worker.proofs.Lists.{mixes_both, hears_both}
-use Rattle.nfs_worker.proofs.Offers.{leaves_both, offers_both, offers_nothing}
+use Rattle.rig.proofs.Offers.{leaves_both, offers_both, offers_nothing}
 
 flat_map-append : {A B : Type 0} (f : A → List B) (xs ys : List A) → flat_map f (xs ++ ys) ≡ flat_map f xs ++ flat_map f ys
 flat_map-append f [] ys = refl

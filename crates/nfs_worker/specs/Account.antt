@@ -10,7 +10,7 @@ use Rattle.stable.specs.Store.{Image, StaysOpenable}
 use Rattle.stable.specs.declared.store.Stable.{Ghosts}
 use Rattle.v7_map.specs.Frame.{frame}
 use Rattle.v7_map.specs.View.{view}
-use Rattle.v7_map.specs.Weak.{IsWeak, IsStrong}
+use Rattle.v7_map.specs.Weak.{IsWeak}
 
 -- One hold of a volume: the events that it appended, those of a call or of a batch, and its mark, the rig's moment at its end.
 pub record Hold : Type 0 where
@@ -48,22 +48,22 @@ abbrev pub MarksWithin : ℕ → ℕ → List Hold → Type 0
 MarksWithin from now [] = from ≤ now
 MarksWithin from now (hold ∷ holds) = (from ≤ hold.mark) × MarksWithin hold.mark now holds
 
--- the image stands for the files after the events, which are a legal history, and there is nothing to mend
+-- the image can be mended, and stands for the files after the events, which are a legal history
 pub record HasGrown (files : Files) (image : Image) (events : List Event) : Type 0 where
   pub legal : IsLegal files events
   pub view_is : view image ≡ after files events
-  pub strong : IsStrong (frame image)
+  pub weak : IsWeak (frame image)
 
--- A store that a volume stands on has gone on by these holds, from the view that was found, where there was nothing to mend.
+-- A store that a volume stands on has gone on by these holds, from the view that was found, where it could be mended.
 pub record Grew {S : Type 0} (s : Ghosts S) (old new : S) (holds : List Hold) : Type 0 where
   -- the history is legal, and the store has the view after it
-  pub grown : s.tells → IsStrong (frame (s.image old)) → HasGrown (view (s.image old)) (s.image new) (history holds)
+  pub grown : s.tells → IsWeak (frame (s.image old)) → HasGrown (view (s.image old)) (s.image new) (history holds)
   -- no more events failed than the count of faults rose by
   pub io : RoseBy (failures (history holds)) (s.faults old) (s.faults new)
   pub marked : MarksWithin (s.moment old) (s.moment new) holds
   -- a crash at any moment since the start leaves the files after the first of these holds, the next one torn or not
-  pub crash : LeavesOnly s.moment s.left_since old new (λ d. IsStrong (frame (s.image old)) → IsRecovered (view (s.image old)) holds d)
+  pub crash : LeavesOnly s.moment s.left_since old new (λ d. IsWeak (frame (s.image old)) → IsRecovered (view (s.image old)) holds d)
   -- and one since a hold's mark has that hold
-  pub lasts : s.tells → IsStrong (frame (s.image old)) → Lasts (s.left_since new) (view (s.image old)) holds
+  pub lasts : s.tells → IsWeak (frame (s.image old)) → Lasts (s.left_since new) (view (s.image old)) holds
   -- what could be opened again still can
-  pub opens : StaysOpenable s.opens_since s.moment old new
+  pub opens : s.tells → StaysOpenable s.opens_since s.moment old new

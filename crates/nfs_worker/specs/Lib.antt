@@ -1,6 +1,6 @@
 pub mod Account
 pub mod Answers
-pub mod Offers
+pub mod Resting
 pub mod Served
 pub mod Tending
 pub mod Turns

@@ -11,7 +11,7 @@ use Rattle.rig.specs.Links.Heard.{Datagram, Idle, Closed, Failed}
 use Rattle.nfs2_wire.specs.Meaning.{Meaning, meaning}
 use Rattle.nfs2_wire.specs.Meaning.Meaning.{NoMeaning, Outside, Asks}
 use Rattle.nfs2_wire.specs.Replies.{bytes_of}
-use Rattle.nfs_worker.specs.Offers.{LeavesOut, Offers}
+use Rattle.rig.specs.Offers.{LeavesOut, Offers}
 
 -- what is seen of a worker's link
 pub record Worker : Type 0 where

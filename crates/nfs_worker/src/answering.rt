@@ -2,7 +2,9 @@
 ghost use Rattle.std.specs.Prelude.{◌≤◌, length};
 ghost use Rattle.nfs_worker.specs.Answers.{Answers};
 ghost use Rattle.nfs_worker.specs.Tending.{IsUntended};
+ghost use Rattle.nfs_worker.specs.Resting.{StaysAtRest};
 ghost use Rattle.volume.specs.Mounted.{store_of};
+ghost use Rattle.volume.specs.Rests.{Rests};
 
 use crate::cells::Cells;
 use crate::releasing::Ready;
@@ -35,7 +37,9 @@ pub fn answer<S: Tended>(
     from: Address,
     bytes: &[u8],
 ) -> Reaction
-    requires { length bytes.now ≤ 9216 }
+    requires short { length bytes.now ≤ 9216 }
+    requires rest { Rests S.Stable cells.old.volume }
+    ensures rest { StaysAtRest S.Stable cells.old.volume cells.new.volume }
     ensures answers { Answers S.Stable (store_of cells.old.volume) (store_of cells.new.volume) number now from bytes.now result }
     ensures untended { IsUntended (S.snapshot_of (store_of cells.old.volume)) (S.snapshot_of (store_of cells.new.volume)) }
 {

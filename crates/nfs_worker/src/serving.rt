@@ -3,7 +3,9 @@ ghost use Rattle.std.specs.Prelude.{◌≡◌, true};
 ghost use Rattle.files_model.specs.Step.{has_row};
 ghost use Rattle.nfs_worker.specs.Served.{Serves};
 ghost use Rattle.nfs_worker.specs.Tending.{IsUntended};
+ghost use Rattle.nfs_worker.specs.Resting.{StaysAtRest};
 ghost use Rattle.volume.specs.Mounted.{store_of};
+ghost use Rattle.volume.specs.Rests.{Rests};
 
 use crate::releasing::Ready;
 use files_model::{Call, Cred, Reply, Stat};
@@ -18,11 +20,12 @@ use volume::{Outcome, Volume};
 pub enum Served {
     /// This reply is to be sent.
     Ready(Ready),
-    /// There was no memory. Nothing was changed, and there is no event.
+    /// There was no memory. No file has changed, and there is no event.
     NoMemory,
 }
 
-/// Serves one call on the volume for a worker, all at this second. The reply's room is reserved before the call is made.
+/// Serves one call on the volume for a worker, all at this second. The reply's room is reserved before the call is made, and a volume that is hurt is
+/// mended in it.
 pub fn serve_call<S: Tended>(
     alloc: Global,
     volume: &mut Volume<S>,
@@ -33,7 +36,9 @@ pub fn serve_call<S: Tended>(
     cred: &Cred,
     now: u32,
 ) -> Served
-    requires { has_row call.now ≡ true }
+    requires row { has_row call.now ≡ true }
+    requires rest { Rests S.Stable volume.old }
+    ensures rest { StaysAtRest S.Stable volume.old volume.new }
     ensures served { Serves S.Stable (store_of volume.old) (store_of volume.new) number now (record { xid = xid; from = from; call = call.now; cred = cred.now }) result }
     ensures untended { IsUntended (S.snapshot_of (store_of volume.old)) (S.snapshot_of (store_of volume.new)) }
 {

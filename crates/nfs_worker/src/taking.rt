@@ -3,7 +3,9 @@ ghost use Rattle.std.specs.Prelude.{◌≡◌, ◌+◌, ◌<◌, ◌^◌};
 ghost use Rattle.nfs_worker.specs.Tending.{IsTended, IsUntended, is_new};
 ghost use Rattle.nfs_worker.specs.Answers.{Replied};
 ghost use Rattle.nfs_worker.specs.Turns.{Turned, IsAsked, answers_in, turn_of, EventTurn};
+ghost use Rattle.nfs_worker.specs.Resting.{StaysAtRest};
 ghost use Rattle.volume.specs.Mounted.{store_of};
+ghost use Rattle.volume.specs.Rests.{Rests};
 
 use crate::answering::{Reaction, answer};
 use crate::cells::Cells;
@@ -60,7 +62,9 @@ fn quiet(event: Event) -> Turn
 
 // Takes one event, and answers it where it is a datagram that means something, at the pass's second.
 fn take<S: Tended, L: Link>(cells: &mut Cells<S>, link: &mut L, pass: &mut ServerPass) -> Turn
-    requires { pass.old.numbers.received < 2 ^ 48 }
+    requires few { pass.old.numbers.received < 2 ^ 48 }
+    requires rest { Rests S.Stable cells.old.volume }
+    ensures rest { StaysAtRest S.Stable cells.old.volume cells.new.volume }
     ensures turned { Turned S.Stable L.Link (store_of cells.old.volume) (store_of cells.new.volume) link.old link.new pass.old pass.new result }
     ensures untended { IsUntended (S.snapshot_of (store_of cells.old.volume)) (S.snapshot_of (store_of cells.new.volume)) }
     ensures second { pass.new.second ≡ pass.old.second }
@@ -82,7 +86,9 @@ pub fn turn<S: Tended, L: Link, C: Clock, P: Pauser>(
     post: &mut Post<L, C, P>,
     pass: &mut ServerPass,
 ) -> Turn
-    requires { pass.old.numbers.received < 2 ^ 48 }
+    requires few { pass.old.numbers.received < 2 ^ 48 }
+    requires rest { Rests S.Stable cells.old.volume }
+    ensures rest { StaysAtRest S.Stable cells.old.volume cells.new.volume }
     ensures turned { Turned S.Stable L.Link (store_of cells.old.volume) (store_of cells.new.volume) post.old.link post.new.link pass.old pass.new result }
     ensures asked { IsAsked C.Clock post.old.clock post.new.clock pass.new.second }
     ensures tended { IsTended (is_new pass.old.second pass.new.second) (S.snapshot_of (store_of cells.old.volume)) (S.snapshot_of (store_of cells.new.volume)) }

@@ -1,7 +1,9 @@
 //! A worker, turn after turn.
 ghost use Rattle.std.specs.Prelude.{◌+◌, ◌<◌, ◌^◌};
 ghost use Rattle.nfs_worker.specs.Turns.{Worked};
+ghost use Rattle.nfs_worker.specs.Resting.{StaysAtRest};
 ghost use Rattle.volume.specs.Mounted.{store_of};
+ghost use Rattle.volume.specs.Rests.{Rests};
 
 use crate::cells::Cells;
 use crate::pass::ServerPass;
@@ -17,8 +19,10 @@ pub fn work<S: Tended, L: Link, C: Clock, P: Pauser>(
     pass: &mut ServerPass,
     turns: u64,
 ) -> Ended
-    requires { pass.old.numbers.received + turns < 2 ^ 48 }
-    ensures { Worked S.Stable L.Link C.Clock (store_of cells.old.volume) (store_of cells.new.volume) post.old.link post.new.link post.old.clock post.new.clock pass.old pass.new result turns }
+    requires few { pass.old.numbers.received + turns < 2 ^ 48 }
+    requires rest { Rests S.Stable cells.old.volume }
+    ensures rest { StaysAtRest S.Stable cells.old.volume cells.new.volume }
+    ensures worked { Worked S.Stable L.Link C.Clock (store_of cells.old.volume) (store_of cells.new.volume) post.old.link post.new.link post.old.clock post.new.clock pass.old pass.new result turns }
 {
     for count in 0..turns {
         match turn(cells, post, pass) {

@@ -1,5 +1,5 @@
-mod Counted
-mod Emptied
+pub mod Counted
+pub mod Emptied
 pub mod Exact
 mod Formatting
 mod Reasons

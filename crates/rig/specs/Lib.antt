@@ -3,3 +3,4 @@ pub mod Devices
 pub mod Hosts
 pub mod Links
 pub mod Looked
+pub mod Offers

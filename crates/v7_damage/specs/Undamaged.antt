@@ -1,11 +1,11 @@
 -- What is known of a volume after its tests.
-use Rattle.std.specs.Prelude.{◌≡◌, ◌<◌, ◌≤◌, ℕ, ◌+◌, get_or, length, Some, None, Result, Ok, Err}
+use Rattle.std.specs.Prelude.{◌≡◌, ◌<◌, ◌≤◌, ℕ, ◌+◌, true, get_or, length, Some, None, Result, Ok, Err}
 use Rattle.stable.specs.Store.{Image}
 use Rattle.v7_layout.specs.Records.{super_of}
-use Rattle.v7_map.specs.Image.{sector_at, inode_sector}
+use Rattle.v7_map.specs.Image.{sector_at, inode_sector, inodes_before}
 use Rattle.v7_map.specs.Frame.{frame}
 use Rattle.v7_map.specs.Tree.{tree, is_walked, links}
-use Rattle.v7_map.specs.Damage.{damage}
+use Rattle.v7_map.specs.Damage.{damage, has_sizes}
 use Rattle.v7_damage.specs.Marks.{mark_at}
 use Rattle.v7_damage.specs.Names.{AreTypes, AreCounts, slots_until}
 use Rattle.v7_damage.specs.Tests.{told}
@@ -44,10 +44,12 @@ abbrev pub IsTested : Image → Result Undamaged RepairFault → Type 0
 IsTested image (Ok known) = IsUndamaged image known
 IsTested image (Err fault) = IsFaultOf image fault
 
--- the tables have an entry for each inode, and each inode's sector is one of the store's
+-- the super-block's numbers are those of a volume on a store of so many sectors, the tables have an entry for each inode, and each inode's sector is one of the store's
 pub record HasEntries (sectors : ℕ) (known : Undamaged) : Type 0 where
   pub some : 1 ≤ length known.types.items
   pub few : length known.types.items ≤ 65536
   pub walked : length known.walked ≡ length known.types.items
   pub counts : length known.counts.items ≡ length known.types.items
   pub stand : (i : ℕ) → i < length known.types.items → inode_sector i < sectors
+  pub sizes : has_sizes known.super_block.mark known.super_block.s_isize known.super_block.s_fsize sectors ≡ true
+  pub all : length known.types.items ≡ inodes_before known.super_block.s_isize + 1

@@ -1,5 +1,5 @@
 -- The volume's name through calls and puts.
-use Rattle.std.proofs.Common.{◌≡◌, ℕ, zero, suc, ◌≤◌, List, [], ◌∷◌, take, set, refl, sym, ap, ◌∙◌, arith, get_or-set_other}
+use Rattle.std.proofs.Common.{◌≡◌, ℕ, zero, suc, List, [], ◌∷◌, take, set, refl, ap, ◌∙◌, arith, get_or-set_other}
 use Rattle.stable.specs.Puts.{put_all, AfterSome, AllPastSuperBlock}
 use Rattle.stable.specs.Store.{Image, name_in}
 use Rattle.v7_map.specs.Image.{sector_at}

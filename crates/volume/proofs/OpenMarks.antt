@@ -1,5 +1,5 @@
 -- The super-block of an open volume is put.
-use Rattle.std.proofs.Common.{◌≡◌, ◌≢◌, ℕ, ◌<◌, List, [], length, set, take, drop, refl, sym, ap, ◌∙◌, subst, arith, inl, inr, get_or-set_same, get_or-set_other}
+use Rattle.std.proofs.Common.{◌≡◌, ℕ, ◌<◌, List, [], length, set, refl, sym, ap, ◌∙◌, subst, arith, inl, inr, get_or-set_same, get_or-set_other}
 use Rattle.v7_layout.specs.Numbers.{part}
 use Rattle.v7_layout.specs.Records.{super_of}
 use Rattle.v7_layout.specs.Written.{super_bytes}
@@ -13,7 +13,7 @@ use Rattle.volume.specs.Keeps.{SameName}
 use Rattle.volume.specs.Marks.{IsMarked, MayMark, running}
 
 -- the name is part of what the super-block's reading has
-pub name-super : (bytes : List ℕ) → (super_of bytes).s_fpack ≡ name_in bytes
+name-super : (bytes : List ℕ) → (super_of bytes).s_fpack ≡ name_in bytes
 unfolding super_of part
 name-super bytes = refl
 

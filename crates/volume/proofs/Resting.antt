@@ -35,35 +35,15 @@ use Rattle.volume.specs.declared.outcome.Outcome.TheVariants as outcome
 use Rattle.volume.specs.Applied.{Applies, CrashLeaves, HasFault, HasFormAt, HasFormOf, Hurts, IsApplied, IsMomentOf, Leaves, LeavesFiles, hurts}
 use Rattle.volume.specs.Keeps.{SameName, SameVolume}
 use Rattle.volume.specs.Rests.{IsAtRest}
-use Rattle.volume.proofs.Naming.{name_same}
 use Rattle.volume.proofs.Reading.{getattr-idle, read-idle}
 
--- ---- a volume that stays
-
--- while nothing is done
-pub volume_same : (image : Image) → IsWeak (frame image) → SameVolume image image
-volume_same image weak = record { files = record { weak = weak; view = refl }; name = refl }
-
--- at each moment of a mend
-pub volume_mended : (old d : Image) → IsWeak (frame old) → MayMend old d → SameVolume old d
-volume_mended old d weak (inl same) = subst (λ (x : Image). SameVolume old x) (sym same) (volume_same old weak)
-volume_mended old d weak (inr keeps) = record { files = keeps.files; name = ap name_in keeps.super }
+-- ---- what stays
 
 -- the sets stay with the frame and the generations
-pub sets_stay : (old new : Image) (blocks inodes : List Bool) → frame new ≡ frame old → (view new).generations ≡ (view old).generations → AreSetsOf old blocks inodes → AreSetsOf new blocks inodes
+sets_stay : (old new : Image) (blocks inodes : List Bool) → frame new ≡ frame old → (view new).generations ≡ (view old).generations → AreSetsOf old blocks inodes → AreSetsOf new blocks inodes
 sets_stay old new blocks inodes same generations sets =
     subst (λ (m : FinMap nat_cmp ℕ). AreSets (frame new) m blocks inodes) (sym generations)
     (subst (λ (f : Frame). AreSets f (view old).generations blocks inodes) (sym same) sets)
-
--- calls that keep the image, as a poll or a flush, keep a volume at rest
-pub rest_same : (tells : Type 0) (old new : Image) (sectors sectors' : ℕ) (hurt : Bool) (blocks inodes : List Bool) → (tells → new ≡ old) → sectors' ≡ sectors
-    → IsAtRest tells old sectors hurt blocks inodes → IsAtRest tells new sectors' hurt blocks inodes
-rest_same tells old new sectors sectors' hurt blocks inodes same as_many rest = record {
-  fits = subst (λ n. FitStore n blocks inodes) (sym as_many) rest.fits;
-  weak = λ told. subst (λ (x : Image). IsWeak (frame x)) (sym (same told)) (rest.weak told);
-  strong = λ told sound. subst (λ (x : Image). IsStrong (frame x)) (sym (same told)) (rest.strong told sound);
-  sets = λ told sound. subst (λ (x : Image). AreSetsOf x blocks inodes) (sym (same told)) (rest.sets told sound);
-}
 
 -- what can be mended has no damage to tell
 pub fault_weak : (image : Image) (sector : ℕ) (kind : Damage) → IsWeak (frame image) → IsFaultOf image (Damaged sector kind) → ⊥
@@ -90,7 +70,7 @@ crash_same old d c cred now (outcome.Reply r) same = record { weak = same.files.
 crash_same old d c cred now outcome.Io same = record { weak = same.files.weak; torn = inl same.files.view }
 crash_same old d c cred now outcome.NoMemory same = record { weak = same.files.weak; view_is = same.files.view }
 
-pub moment_same : (old d : Image) (c : Call) (cred : Cred) (now : ℕ) (o : Outcome) → SameVolume old d → IsMomentOf old c cred now o d
+moment_same : (old d : Image) (c : Call) (cred : Cred) (now : ℕ) (o : Outcome) → SameVolume old d → IsMomentOf old c cred now o d
 moment_same old d c cred now o same = record { files = crash_same old d c cred now o same; name = same.name }
 
 write-generations : (files : Files) (file : FileId) (offset : ℕ) (bytes : List ℕ) (cred : Cred) (now : ℕ) → (write_row files file offset bytes cred now).1.generations ≡ files.generations

@@ -1,5 +1,5 @@
 -- A volume that is stopped.
-use Rattle.std.proofs.Common.{◌≡◌, Bool, List, subst, sym}
+use Rattle.std.proofs.Common.{Bool, List, subst, sym}
 use Rattle.stable.specs.Store.{Image}
 use Rattle.v7_map.specs.Frame.{Frame, frame}
 use Rattle.v7_map.specs.Weak.{IsWeak}

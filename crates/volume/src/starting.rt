@@ -25,11 +25,7 @@ pub struct Opening {
 }
 
 /// Mends the volume on a store, says in its super-block that it is open, and reads its name and its root.
-pub fn open_store<S: Stable>(
-    alloc: Global,
-    store: &mut S,
-    now: u32,
-) -> Result<Opening, RepairFault>
+pub fn open_store<S: Stable>(alloc: Global, store: &mut S, now: u32) -> Result<Opening, RepairFault>
     ensures starts { S.tells → Starts (S.image store.old) (S.image store.new) now result }
     ensures fits { IfOk result (λ opening. FitStore (S.sector_count store.old) opening.mended.sets.blocks opening.mended.sets.inodes) }
     ensures later { S.faults store.old ≤ S.faults store.new }

@@ -1,10 +1,14 @@
 //! Runs over a disk with a board of 64 buffers in front of it.
 ghost use Rattle.v7_layout.specs.Written.{AddressesFit};
 
-use crate::tests::outside::{cells, datagram, has_said, has_sent, post_at, rig_of, served_by};
-use crate::tests::test_volume::{
-    CALL, CREDENTIAL, FRESH, HANDLE, REPLY, WRITE, WRITTEN, disk_of, file, has_disk, is_volume,
-    rig, worked_write,
+use crate::tests::outside::{
+    cells, datagram, has_said, has_sent, has_sent_all, host_at, opening_calls, post_at, rig_of,
+    run, served_by,
+};
+use crate::tests::volumes::{has_disk, has_files, is_volume};
+use crate::tests::worked::{
+    CALL, CREDENTIAL, HANDLE, REPLY, WRITE, add_words, getattr, status_reply, worked_reply,
+    worked_write,
 };
 use nfs_worker::taking::turn;
 use nfs_worker::{ServerPass, Turn};
@@ -15,10 +19,11 @@ use stable::{Cause, Command, State};
 use std::alloc::Global;
 use std::test::Fail;
 use v7_layout::Inode;
+use volume_mem::{FRESH, WRITTEN, file, sectors_of, test_volume};
 
-// A rig with this disk and a board that is formatted for `VOLA00`. Its device calls are counted from here on.
-fn with_board(alloc: Global, disk: &[[u8; 512]]) -> Result<MemRig, Fail> {
-    let mut rig = MemRig::new(alloc, 64, 64)?;
+/// A rig with this disk and a board of so many buffers, 64 at the most, that is formatted for `VOLA00`. Its device calls are counted from here on.
+pub fn with_board(alloc: Global, disk: &[[u8; 512]], buffers: u32) -> Result<MemRig, Fail> {
+    let mut rig = MemRig::new(alloc, 64, buffers.clamp(2, 64))?;
     for (sector, bytes) in (0..64).zip(disk.iter()) {
         if sector < rig.sectors() && rig.write(sector, bytes).is_err() {
             return Err("the disk isn't made".into());
@@ -32,7 +37,7 @@ fn with_board(alloc: Global, disk: &[[u8; 512]]) -> Result<MemRig, Fail> {
 
 // The test volume with such a board.
 fn small(alloc: Global) -> Result<MemRig, Fail> {
-    with_board(alloc, rig(alloc, FRESH)?.disk())
+    with_board(alloc, &test_volume(alloc, FRESH)?, 64)
 }
 
 // ---- a long WRITE
@@ -51,6 +56,9 @@ fn long_file(changed: u32) -> Inode
     }
 }
 
+// The first sector past that file.
+const PAST_LONG: usize = 22;
+
 // The disk of that file after so many puts of a WRITE of 8,192 bytes `Z`: 16 of data, and then the inode's.
 fn long_disk(alloc: Global, puts: usize) -> Result<Vec<[u8; 512]>, Fail> {
     let mut addresses = [0; 512];
@@ -66,15 +74,7 @@ fn long_disk(alloc: Global, puts: usize) -> Result<Vec<[u8; 512]>, Fail> {
         blocks.push([byte; 512])?;
     }
     let changed = if puts > 16 { 2000 } else { 1000 };
-    disk_of(alloc, 0, &long_file(changed), &blocks)
-}
-
-// Adds these words, high byte first.
-fn add_words(bytes: &mut Vec<u8>, words: &[u32]) -> Result<(), Fail> {
-    for word in words {
-        bytes.extend_from_slice(&word.to_be_bytes())?;
-    }
-    Ok(())
+    Ok(sectors_of(alloc, 0, &long_file(changed), &blocks)?)
 }
 
 // The WRITE of 8,192 bytes `Z` at the file's begin.
@@ -101,10 +101,9 @@ fn long_reply(alloc: Global) -> Result<Vec<u8>, Fail> {
     Ok(bytes)
 }
 
-// The device call that is the WRITE's first store on the board. Before it the opening reads the name, the 65 words of the
-// board, the super-block and the root's inode; the WRITE reads the super-block, the inode, ten sectors of data, and the
-// indirect block with each of the other six.
-const FIRST_STORE: u64 = 93;
+// How many device calls the long WRITE makes before its first store on the board: it reads the super-block, the inode, ten
+// sectors of data, and the indirect block with each of the other six.
+const READS: u64 = 24;
 
 // Serves the long WRITE over a rig that is cut at that store of the board, counted from 1.
 fn cut_at(
@@ -112,8 +111,9 @@ fn cut_at(
     store: u64,
     newer: bool,
 ) -> Result<(u8, crate::tests::outside::Host), Fail> {
-    let mut rig = with_board(alloc, &long_disk(alloc, 0)?)?;
-    rig.stop_at(FIRST_STORE.saturating_add(store).saturating_sub(1), newer);
+    let opening = opening_calls(alloc, with_board(alloc, &long_disk(alloc, 0)?, 64)?)?;
+    let mut rig = with_board(alloc, &long_disk(alloc, 0)?, 64)?;
+    rig.stop_at(opening.saturating_add(READS).saturating_add(store), newer);
     let mut events = Vec::new(alloc);
     events.push(datagram(&long_write(alloc)?))?;
     served_by(alloc, rig, &["d:b"], events)
@@ -148,7 +148,7 @@ fn a_long_write_stays_on_the_board(rt: HostRuntime) -> Result<(), Fail> {
     let Some(rig) = rig_of(host) else {
         panic!(rt; "no rig came back");
     };
-    assert!(rt; has_disk(&rig, &long_disk(alloc, 0)?));
+    assert!(rt; has_files(&rig, &long_disk(alloc, 0)?, PAST_LONG));
     let (status, host) = served_by(alloc, rig.crash(true, 0), &["d:b"], Vec::new(alloc))?;
     assert_eq!(rt; status, 0);
     assert!(rt;
@@ -164,7 +164,7 @@ fn a_long_write_stays_on_the_board(rt: HostRuntime) -> Result<(), Fail> {
     let Some(rig) = rig_of(host) else {
         panic!(rt; "no rig came back");
     };
-    assert!(rt; has_disk(&rig, &long_disk(alloc, 17)?));
+    assert!(rt; has_files(&rig, &long_disk(alloc, 17)?, PAST_LONG));
     Ok(())
 }
 
@@ -184,7 +184,7 @@ fn a_cut_long_write_leaves_its_first_sectors(rt: HostRuntime) -> Result<(), Fail
                 panic!(rt; "not recovered");
             };
             assert!(rt;
-                has_disk(&rig, &long_disk(alloc, puts)?),
+                has_files(&rig, &long_disk(alloc, puts)?, PAST_LONG),
                 "store {store}, newer {newer}"
             );
         }
@@ -303,7 +303,8 @@ fn a_board_of_no_volume_is_refused(rt: HostRuntime) -> Result<(), Fail> {
         let Some(back) = rig_of(host) else {
             panic!(rt; "no rig came back");
         };
-        assert!(rt; has_disk(&back, twin.disk()));
+        assert!(rt; has_files(&back, twin.disk(), 7));
+        assert!(rt; status == 0 || has_disk(&back, twin.disk()));
     }
     Ok(())
 }
@@ -328,7 +329,8 @@ fn a_low_battery_sends_all_to_the_disk_turn_by_turn(rt: HostRuntime) -> Result<(
     assert_eq!(rt; turn(&mut cells, &mut post, &mut pass), Turn::Answered(1));
     let shown = cells.volume.snapshot();
     assert!(rt; shown.state == State::Up && shown.dirty == 3);
-    assert!(rt; shown.puts == 3 && shown.polls == 0);
+    // the opening put the super-block
+    assert!(rt; shown.puts == 4 && shown.polls == 0);
     cells.volume.set_battery(Battery::Low);
     for (dirty, tries) in [(2, 1), (1, 2), (0, 3)] {
         assert!(rt; pass.numbers.received < 6);
@@ -344,6 +346,69 @@ fn a_low_battery_sends_all_to_the_disk_turn_by_turn(rt: HostRuntime) -> Result<(
     assert!(rt; shown.state == State::Up && shown.polls == 2 && shown.tries == 3);
     let rig = cells.volume.into_store().into_rig().crash(false, 7);
     assert!(rt; is_volume(alloc, &rig, WRITTEN)?);
+    Ok(())
+}
+
+// The device call after the three flushes, counted from the opening on. Before them the WRITE reads the super-block, the inode
+// and two sectors of data, and stores three buffers and their words; a flush reads a buffer, writes a sector, and clears a word.
+const AFTER_FLUSHES: u64 = 20;
+
+// The WRITE at second 2000, three turns without a datagram at the next second, at which the battery is low, and a GETATTR
+// at which the rig is cut. So the stopping can write no chain, and the Down at the end flush nothing.
+fn cut_with_a_low_battery(alloc: Global) -> Result<(u8, crate::tests::outside::Host), Fail> {
+    let opening = opening_calls(alloc, small(alloc)?)?;
+    let mut rig = small(alloc)?;
+    rig.low_from(2);
+    rig.stop_at(opening.saturating_add(AFTER_FLUSHES), false);
+    let mut events = Vec::new(alloc);
+    events.push(datagram(&worked_write()))?;
+    for _ in 0..3 {
+        events.push(MemEvent::Idle)?;
+    }
+    events.push(datagram(&getattr(alloc)?))?;
+    let mut host = host_at(alloc, rig, &[2000], events, &[2000, 2001])?;
+    let status = run(alloc, &["d:b"], &mut host)?;
+    Ok((status, host))
+}
+
+#[test]
+fn what_a_low_battery_sent_to_the_disk_outlasts_the_board(rt: HostRuntime) -> Result<(), Fail> {
+    let alloc = rt.alloc();
+    let (status, host) = cut_with_a_low_battery(alloc)?;
+    assert_eq!(rt; status, 74);
+    let mut replies = Vec::new(alloc);
+    replies.push(Vec::from_slice(alloc, &worked_reply())?)?;
+    replies.push(Vec::from_slice(alloc, &status_reply(5))?)?;
+    assert!(rt; has_sent_all(&host, &replies));
+    assert!(rt;
+        has_said(
+            &host,
+            &[
+                "volume 0 VOLA00 up recovered 0",
+                STOPPED,
+                "received 2 answered 2 dropped 0",
+                "device failed on volume 0",
+            ]
+        )
+    );
+    let Some(rig) = rig_of(host) else {
+        panic!(rt; "no rig came back");
+    };
+    let rig = rig.crash(false, 7);
+    assert!(rt; is_volume(alloc, &rig, WRITTEN)?);
+    let (status, host) = served_by(alloc, rig, &["d:b", "--accept-loss"], Vec::new(alloc))?;
+    assert_eq!(rt; status, 0);
+    assert!(rt;
+        has_said(
+            &host,
+            &[
+                "volume 0: lost board accepted",
+                "volume 0 VOLA00 up recovered 0",
+                STOPPED,
+                NOTHING,
+            ]
+        )
+    );
     Ok(())
 }
 

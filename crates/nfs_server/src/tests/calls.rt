@@ -2,14 +2,13 @@
 ghost use Rattle.v7_layout.specs.Written.{AddressesFit};
 
 use crate::tests::outside::{Host, datagram, has_sent_all, rig_of, served_all};
-use crate::tests::test_volume::{
-    ATTRIBUTES, CALL, CREDENTIAL, FRESH, HANDLE, REPLY, WRITE, disk_of, file, has_disk, rig,
-    rig_with,
-};
+use crate::tests::volumes::{has_files, rig, rig_with};
+use crate::tests::worked::{ATTRIBUTES, CALL, CREDENTIAL, HANDLE, REPLY, WRITE, add_words};
 use rig_mem::MemRig;
 use std::alloc::Global;
 use std::test::Fail;
 use v7_layout::Inode;
+use volume_mem::{FRESH, file, sectors_of};
 
 // The other procedures (RFC 1094 2.2).
 const GETATTR: u32 = 1;
@@ -18,14 +17,6 @@ const READ: u32 = 6;
 
 // A procedure, the generation of the handle, the words of the other arguments, and the words of the reply from the status on.
 type Row = (u32, u32, &'static [u32], &'static [&'static [u32]]);
-
-// These words, high byte first.
-fn add_words(bytes: &mut Vec<u8>, words: &[u32]) -> Result<(), Fail> {
-    for word in words {
-        bytes.extend_from_slice(&word.to_be_bytes())?;
-    }
-    Ok(())
-}
 
 fn datagram_of(alloc: Global, row: Row) -> Result<Vec<u8>, Fail> {
     let mut bytes = Vec::new(alloc);
@@ -125,12 +116,12 @@ fn long_disk(
     let mut last = [b'c'; 512];
     last[510] = end[0];
     last[511] = end[1];
-    disk_of(
+    Ok(sectors_of(
         alloc,
         0,
         &long_file(changed),
         &[ninth, tenth, addresses, last],
-    )
+    )?)
 }
 
 const LONG_BEFORE: [u32; 17] = [
@@ -201,6 +192,6 @@ fn a_long_file_is_reached_through_its_indirect_block(rt: HostRuntime) -> Result<
     let Some(rig) = rig_of(host) else {
         panic!(rt; "no rig came back");
     };
-    assert!(rt; has_disk(&rig, &long_disk(alloc, 2000, *b"XY", *b"XY")?));
+    assert!(rt; has_files(&rig, &long_disk(alloc, 2000, *b"XY", *b"XY")?, 9));
     Ok(())
 }

@@ -1,25 +1,39 @@
 //! A run over one rig and one post in memory.
+ghost use Rattle.std.specs.Prelude.{IfSome};
+ghost use Rattle.volume.specs.Rests.{Rests};
+
 use crate::serve;
-use crate::tests::test_volume::CLIENT;
+use crate::tests::worked::CLIENT;
 use nfs_worker::Cells;
 use presto_recover::open;
 use presto_unit::Presto;
 use rig::{Packet, Post};
 use rig_mem::{MemClock, MemEvent, MemHost, MemLink, MemRig, SentDatagram, StillPauser};
+use stable::Stable;
 use std::alloc::Global;
 use std::test::Fail;
 use volume::Volume;
 
 pub type Host = MemHost<MemRig, StillPauser>;
 
-/// The volume of a rig, if it can be opened.
-pub fn cells(alloc: Global, rig: MemRig) -> Option<Cells<Presto<MemRig>>> {
+/// The volume of a rig, if it can be opened, at second 1500.
+pub fn cells(alloc: Global, rig: MemRig) -> Option<Cells<Presto<MemRig>>>
+    ensures { IfSome result (λ cells. Rests ⟦<Presto<MemRig> as Stable>⟧ cells.volume) }
+{
     let Ok(opened) = open(alloc, rig, false) else {
         return None;
     };
-    match Volume::open(alloc, opened.presto) {
-        Ok(volume) => Some(Cells { alloc, volume }),
+    match Volume::open(alloc, opened.presto, 1500) {
+        Ok((volume, _repaired)) => Some(Cells { alloc, volume }),
         Err(_) => None,
+    }
+}
+
+/// How many device calls the opening of a rig's volume makes.
+pub fn opening_calls(alloc: Global, rig: MemRig) -> Result<u64, Fail> {
+    match cells(alloc, rig) {
+        Some(cells) => Ok(cells.volume.into_store().into_rig().calls()),
+        None => Err("the volume isn't opened".into()),
     }
 }
 
@@ -61,6 +75,22 @@ pub fn host(alloc: Global, rigs: Vec<MemRig>, events: Option<Vec<MemEvent>>) -> 
         posts.push(post(alloc, events)?)?;
     }
     let clock = MemClock::new(Vec::from_slice(alloc, &[1500])?);
+    Ok(MemHost::new(alloc, rigs, posts, clock)?)
+}
+
+/// A host that gives this rig at its first second, and a post with these events at these seconds.
+pub fn host_at(
+    alloc: Global,
+    rig: MemRig,
+    own: &[u32],
+    events: Vec<MemEvent>,
+    seconds: &[u32],
+) -> Result<Host, Fail> {
+    let mut rigs = Vec::new(alloc);
+    rigs.push(rig)?;
+    let mut posts = Vec::new(alloc);
+    posts.push(post_at(alloc, events, seconds)?)?;
+    let clock = MemClock::new(Vec::from_slice(alloc, own)?);
     Ok(MemHost::new(alloc, rigs, posts, clock)?)
 }
 

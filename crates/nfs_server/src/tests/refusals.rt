@@ -1,7 +1,9 @@
 //! The refusals of a WRITE.
 use crate::tests::outside::{has_said, has_sent, served};
-use crate::tests::test_volume::{FRESH, Shape, is_volume, rig, status_reply, write_with};
+use crate::tests::volumes::{is_volume, rig};
+use crate::tests::worked::{status_reply, write_with};
 use std::test::Fail;
+use volume_mem::{FRESH, Shape};
 
 const READ_ONLY: Shape = Shape {
     read_only: 1,

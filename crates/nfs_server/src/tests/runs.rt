@@ -1,10 +1,12 @@
 //! Statuses and lines.
 use crate::USAGE;
 use crate::tests::outside::{Host, datagram, has_said, has_sent, host, run, served};
-use crate::tests::test_volume::{FRESH, WRITTEN, is_volume, rig, worked_reply, worked_write};
+use crate::tests::volumes::{is_volume, rig};
+use crate::tests::worked::{worked_reply, worked_write};
 use rig_mem::{MemEvent, MemRig};
 use std::alloc::Global;
 use std::test::Fail;
+use volume_mem::{FRESH, WRITTEN};
 
 const OPENED: &str = "volume 0 VOLA00 down recovered 0";
 

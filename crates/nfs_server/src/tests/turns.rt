@@ -1,11 +1,13 @@
 //! Single turns, and what each says.
 use crate::tests::outside::{cells, datagram, post};
-use crate::tests::test_volume::{CLIENT, FRESH, WRITTEN, is_volume, rig, worked_write, write_with};
+use crate::tests::volumes::{is_volume, rig};
+use crate::tests::worked::{CLIENT, worked_write, write_with};
 use nfs_worker::taking::turn;
 use nfs_worker::{DropCause, ServerPass, Turn};
 use rig::{Address, Event, Failed, Link, Packet, Post};
 use rig_mem::{MemClock, MemEvent, StillPauser};
 use std::test::Fail;
+use volume_mem::{FRESH, WRITTEN};
 
 #[test]
 fn each_event_has_its_turn(rt: HostRuntime) -> Result<(), Fail> {

@@ -1,19 +1,25 @@
-use Rattle.std.proofs.Common.{arith, ◌∙◌, [], ◌∷◌, List, ℕ, refl, sym, ap, subst}
-use Rattle.nfs_server.specs.Refusals.{host_line}
-use Rattle.nfs_server.specs.Run.{RefusedPost}
-use Rattle.nfs_server.proofs.Sayings.{told_as}
-use Rattle.nfs_server.proofs.Stops.{stops_as}
+use Rattle.std.proofs.Common.{◌∙◌, [], ◌∷◌, List, ℕ, refl, ap}
+use Rattle.run_lines.specs.Refusals.{host_line}
+use Rattle.run_lines.proofs.Sayings.{loans_both, said_later, told_as}
+use Rattle.nfs_server.specs.Course.{stop_of}
 use Rattle.nfs_server.proofs.running.refuse_post.Goals as goal
-use Rattle.volume.specs.Mounted.{store_of}
+use Rattle.volume.specs.Mounted.{is_hurt}
 
 pub returns : goal.returns
 returns g c =
     let s = g.S.Stable in
+    let asked = c.now-now.ensures in
+    let stopped = c.stop-store.ensures in
     let refused = c.host_refusal.ensures in
     let line = refused.line_is ∙ ap (λ (missing : List ℕ). host_line missing c.args.fault) c.line_of.ensures in
-    subst (λ store. RefusedPost g.H.Host g.H.Say s c.args.fault c.args.host.now c.refuse-status.new.host (store_of c.args.volume) store c.refuse-status.result) (sym c.into_store.ensures) record {
-      told = told_as g.H.Host g.H.Say (ap (λ (l : List ℕ). l ∷ []) line) c.refuse-status.ensures.told;
-      keeps = c.stop.ensures.keeps;
-      stopped = stops_as (s.snapshot_of (store_of c.stop.new.volume)) refl (omega arith) c.stop.ensures.stopped;
+    let told = told_as g.H.Host g.H.Say (ap (λ (l : List ℕ). l ∷ []) line) c.refuse-status.ensures.told in
+    record {
+      stop = stop_of (s.snapshot_of c.stop-store.result.0) (is_hurt c.args.volume) c.stop-store.result.1;
+      told = record {
+        same = record { rigs = loans_both asked.rigs told.same.rigs; posts = loans_both asked.posts told.same.posts; faults = told.same.faults ∙ asked.faults };
+        said = said_later g.H.Say asked.lines told.said;
+      };
+      grows = stopped.grows;
+      stopped = stopped.stopped;
       status = c.refuse-status.ensures.status ∙ refused.status_is;
     }

@@ -7,11 +7,12 @@ use Rattle.nfs_server.proofs.running.run_worker.Goals as goal
 pub returns : goal.returns
 returns g c =
     let l = g.H.L.Link in
-    let w = c.work-ended.ensures in
+    let w = c.work-ended.ensures.worked in
     let gave = c.give_back_post.ensures in
     let received : c.work-ended.new.pass.numbers.received ≡ datagrams w.heard = let counted = w.counts.received in let none = c.new-pass.ensures.received in omega (arith, counted, none) in
     let answered : c.work-ended.new.pass.numbers.answered ≡ length w.replies = let counted = w.counts.answered in let none = c.new-pass.ensures.answered in omega (arith, counted, none) in
     record {
+      rest = c.work-ended.ensures.rest;
       ran = record {
         did = record { heard = w.heard; own = owned 0 (history w.holds); replies = w.replies };
         back = c.work-ended.new.post;

@@ -4,12 +4,14 @@ use Rattle.rig.specs.Links.{gains}
 use Rattle.nfs_server.specs.Asking.{asked_of, options_read}
 use Rattle.nfs_server.specs.Course.{Usage, NoRig}
 use Rattle.nfs_server.specs.Kept.{FoundAs}
-use Rattle.nfs_server.specs.Refusals.{host_line}
+use Rattle.run_lines.specs.Refusals.{host_line}
 use Rattle.nfs_server.specs.Run.{options_of}
 use Rattle.nfs_server.specs.Words.{Asked, Options, asked_by}
 use Rattle.nfs_server.proofs.Understanding.{understood_rig}
-use Rattle.nfs_server.proofs.Loans.{loan_none, loan_one, loan_within, host_failed, host_not, rig-not-64}
-use Rattle.nfs_server.proofs.Sayings.{said_later, said_before, told_as}
+use Rattle.run_lines.proofs.Loans.{loan_none, loan_one, loan_within}
+use Rattle.run_lines.proofs.Statuses.{host_failed, host_not}
+use Rattle.nfs_server.proofs.Statuses.{rig-not-64}
+use Rattle.run_lines.proofs.Sayings.{said_later, said_before, told_as}
 use Rattle.nfs_server.proofs.running.serve.Goals as goal
 
 pub returns-in_default-clause-outcome : goal.returns-in_default-clause-outcome

@@ -2,15 +2,16 @@ use Rattle.std.proofs.Common.{arith, ◌≡◌, ◌≤◌, ◌++◌, ◌∙◌, 
 use Rattle.stable.specs.Counts.{Rose, RoseBy}
 use Rattle.stable.specs.declared.snapshot.Snapshot.{Snapshot}
 use Rattle.nfs_worker.specs.Worker.{Own}
-use Rattle.nfs_worker.proofs.Accounts.{grew_idle, grew_both, grew_before}
-use Rattle.nfs_server.specs.Course.{Start, NoPost, Ran, start_lines, stop_of, state_after, closing_lines}
+use Rattle.nfs_worker.proofs.Accounts.{grew_idle, grew_before}
+use Rattle.nfs_server.specs.Course.{Start, NoPost, Ran, fails, start_lines, state_after}
 use Rattle.nfs_server.specs.Run.{changes_in}
 use Rattle.nfs_server.proofs.Endings.{closing_not}
-use Rattle.nfs_server.proofs.Loans.{loan_none, loan_one, host_failed}
-use Rattle.nfs_server.proofs.Sayings.{loans_both, said_both, said_later, told_as}
+use Rattle.run_lines.proofs.Loans.{loan_none, loan_one}
+use Rattle.run_lines.proofs.Statuses.{host_failed}
+use Rattle.run_lines.proofs.Sayings.{loans_both, said_both, said_later, told_as}
 use Rattle.nfs_server.proofs.Stops.{stops_since}
 use Rattle.nfs_server.proofs.running.serve_open.Goals as goal
-use Rattle.volume.specs.Mounted.{store_of}
+use Rattle.volume.specs.Mounted.{store_of, is_hurt, name_of}
 
 pub returns-in-Err : goal.returns-in-Err
 returns-in-Err g c =
@@ -23,17 +24,17 @@ returns-in-Err g c =
     let first = told.same.faults in
     let between = c.in-Err.ensures.cause.later in
     let last = refused.told.same.faults in
-    let start : Start = record { name = c.name.result; recovered = c.args.recovery.recovered; left = (s.snapshot_of store).dirty; lost = c.args.recovery.lost; opened = (s.snapshot_of store).state; battery = c.snapshot.result.battery; state = c.snapshot.result.state } in
+    let start : Start = record { name = c.name.result; recovered = c.args.recovery.recovered; lost = c.args.recovery.lost; opened = (s.snapshot_of store).state; battery = c.snapshot.result.battery; state = c.snapshot.result.state } in
     record {
       served = record {
-        course = NoPost start c.in-Err.fault (stop_of (s.snapshot_of c.refuse_post.result.1));
+        course = NoPost start c.in-Err.fault refused.stop;
         served = record {
           holds = [];
           posts = [];
           backs = [];
           rigs = loans_both told.same.rigs (loans_both c.in-Err.ensures.rigs refused.told.same.rigs);
           loan = loan_none (refused.told.same.posts.left ∙ c.in-Err.ensures.refused.left ∙ told.same.posts.left) (refused.told.same.posts.back ∙ c.in-Err.ensures.refused.back ∙ told.same.posts.back);
-          grows = grew_both s g.met.S.Stable.clocked [] [] (grew_idle s g.met.S.Stable.clocked c.start.ensures.keeps) (grew_idle s g.met.S.Stable.clocked refused.keeps);
+          grows = grew_before s g.met.S.Stable.clocked [] (grew_idle s g.met.S.Stable.clocked c.start.ensures.keeps) refused.grows;
           workers = tt;
           shared = refl;
           polled = tt;
@@ -46,14 +47,13 @@ returns-in-Err g c =
           later = omega (arith, first, between, last);
         };
         runs = (
-          c.name.ensures ∙ c.start.ensures.titled.name,
+          c.name.ensures ∙ ap (λ v. name_of v) c.start.ensures.kept,
           record {
             recovered = refl;
             lost = refl;
-            left = refl;
-            opened = refl;
+            opened = λ not_up. refl;
             started = ap (λ (x : Snapshot). x.state) shown ∙ started.state ∙ ap (λ (x : Snapshot). state_after c.args.options.down (s.snapshot_of store).state x.battery) (sym shown);
-            stopped = stops_since c.start.ensures.keeps.later refused.stopped;
+            stopped = stops_since s (let later = c.start.ensures.keeps.later in omega (arith, later)) (let io = refused.grows.io in omega (arith, io)) (λ hurt sound. let same = ap (λ v. is_hurt v) c.start.ensures.kept in let none = sym hurt ∙ same ∙ sound in cc) refused.stopped;
           },
         );
       };
@@ -71,7 +71,7 @@ returns-in-Ok g c =
     let first = told.same.faults in
     let between = c.in-Ok.ensures.cause.later in
     let last = ran.faults in
-    let start : Start = record { name = c.name.result; recovered = c.args.recovery.recovered; left = (s.snapshot_of store).dirty; lost = c.args.recovery.lost; opened = (s.snapshot_of store).state; battery = c.snapshot.result.battery; state = c.snapshot.result.state } in
+    let start : Start = record { name = c.name.result; recovered = c.args.recovery.recovered; lost = c.args.recovery.lost; opened = (s.snapshot_of store).state; battery = c.snapshot.result.battery; state = c.snapshot.result.state } in
     record {
       served = record {
         course = Ran start ran.way ran.did ran.stop;
@@ -81,7 +81,7 @@ returns-in-Ok g c =
           backs = (0, ran.back) ∷ [];
           rigs = loans_both told.same.rigs (loans_both c.in-Ok.ensures.rigs ran.rigs);
           loan = loan_one c.post.new.self (sym told.same.posts.left ∙ gives.left) (gives.back ∙ told.same.posts.back) ran.left ran.returned;
-          grows = grew_before s g.met.S.Stable.clocked ran.holds c.start.ensures.keeps ran.grows;
+          grows = grew_before s g.met.S.Stable.clocked ran.holds (grew_idle s g.met.S.Stable.clocked c.start.ensures.keeps) ran.grows;
           workers = (refl, ran.works, tt);
           shared = ap (λ (own : List Own). own ++ []) ran.shared;
           polled = (subst (λ (n : ℕ). RoseBy (changes_in g.H.C.Clock c.in-Ok.post ran.back) n (s.snapshot_of c.serve_post.result.1).polls) started.polls ran.polled, tt);
@@ -89,18 +89,17 @@ returns-in-Ok g c =
           had_rig = refl;
           status = ran.status;
           said = said_both g.H.Say (start_lines start) _ told.said (said_later g.H.Say c.in-Ok.ensures.lines ran.said);
-          host = λ is. absurd (closing_not ran.way ran.stop.dirty 66 (λ e. omega (arith, e)) (λ e. omega (arith, e)) (λ e. omega (arith, e)) (sym ran.status ∙ is));
+          host = λ is. absurd (closing_not ran.way (fails ran.stop) 66 (λ e. omega (arith, e)) (λ e. omega (arith, e)) (λ e. omega (arith, e)) (sym ran.status ∙ is));
           later = omega (arith, first, between, last);
         };
         runs = (
-          c.name.ensures ∙ c.start.ensures.titled.name,
+          c.name.ensures ∙ ap (λ v. name_of v) c.start.ensures.kept,
           record {
             recovered = refl;
             lost = refl;
-            left = refl;
-            opened = refl;
+            opened = λ not_up. refl;
             started = ap (λ (x : Snapshot). x.state) shown ∙ started.state ∙ ap (λ (x : Snapshot). state_after c.args.options.down (s.snapshot_of store).state x.battery) (sym shown);
-            stopped = stops_since c.start.ensures.keeps.later ran.stopped;
+            stopped = stops_since s (let later = c.start.ensures.keeps.later in omega (arith, later)) (let io = ran.grows.io in omega (arith, io)) (λ hurt sound. let same = ap (λ v. is_hurt v) c.start.ensures.kept in let none = sym hurt ∙ same ∙ sound in cc) ran.stopped;
           },
         );
       };

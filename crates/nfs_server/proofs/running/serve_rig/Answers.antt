@@ -1,15 +1,18 @@
 use Rattle.std.proofs.Common.{arith, ◌≡◌, ◌≤◌, ◌^◌, ◌∙◌, ℕ, [], ◌∷◌, List, refl, sym, ap, subst}
 use Rattle.stable.specs.Counts.{RoseBy, Rose}
 use Rattle.nvram_map.specs.Overlay.{NoEntry}
+use Rattle.presto_recover.proofs.Shown.{same_overlay}
 use Rattle.presto_unit.specs.Parts.{rig_of}
 use Rattle.nfs_server.specs.Asking.{options_read}
 use Rattle.nfs_server.specs.Course.{NoUnit}
+use Rattle.nfs_server.specs.Kept.{IsNotOpened}
 use Rattle.nfs_server.specs.Run.{ServedRig}
 use Rattle.nfs_server.proofs.Devices.{device_failed}
 use Rattle.nfs_server.proofs.Founds.{found_by}
-use Rattle.nfs_server.proofs.Loans.{loan_none, unit_not}
+use Rattle.run_lines.proofs.Loans.{loan_none}
+use Rattle.run_lines.proofs.Statuses.{unit_not}
 use Rattle.nfs_server.proofs.Overlays.{kept_refused, kept_opened}
-use Rattle.nfs_server.proofs.Sayings.{told_as}
+use Rattle.run_lines.proofs.Sayings.{told_as}
 use Rattle.nfs_server.proofs.Stops.{each_pair}
 use Rattle.nfs_server.proofs.running.serve_rig.Goals as goal
 
@@ -21,6 +24,7 @@ returns-in-Err g c =
     let told = told_as g.H.Host g.H.Say (ap (λ (line : List ℕ). line ∷ []) refusal.line_is) c.refuse.ensures.told in
     let status = c.refuse.ensures.status ∙ refusal.status_is in
     let last = told.same.faults in
+    let found : IsNotOpened r (options_read c.args.options) c.args.rig c.in-Err.rig c.in-Err.fault = record { reason = refused.reason; same = same_overlay r g.met.R.Rig.clocked refused.only_formats.sizes refused.crash } in
     record {
       served = record {
         course = NoUnit c.in-Err.fault;
@@ -30,7 +34,7 @@ returns-in-Err g c =
         rigs = told.same.rigs;
         loan = loan_none told.same.posts.left told.same.posts.back;
         kept = kept_refused r g.met.R.Rig.clocked c.args.options.accept_loss c.in-Err.fault refused;
-        found = refused.reason;
+        found = found;
         workers = tt;
         shared = refl;
         polled = tt;
@@ -38,7 +42,7 @@ returns-in-Err g c =
         had_rig = refl;
         status = status;
         said = told.said;
-        device = λ is. device_failed r (options_read c.args.options) c.args.rig c.in-Err.rig (NoUnit c.in-Err.fault) refused.reason (sym status ∙ is);
+        device = λ is. device_failed r (options_read c.args.options) c.args.rig c.in-Err.rig (NoUnit c.in-Err.fault) found (sym status ∙ is);
         host = λ is. absurd (unit_not c.in-Err.fault 66 (omega arith) (sym status ∙ is));
         later = omega (arith, last);
       };

@@ -1,6 +1,6 @@
 use Rattle.std.proofs.Common.{sym, ap}
 use Rattle.nfs_server.specs.Course.{loss_lines}
-use Rattle.nfs_server.proofs.Sayings.{told_none, told_as}
+use Rattle.run_lines.proofs.Sayings.{told_none, told_as}
 use Rattle.nfs_server.proofs.telling.tell_loss.Goals as goal
 
 pub returns-else-lost : goal.returns-else-lost

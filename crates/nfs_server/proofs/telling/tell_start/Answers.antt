@@ -1,6 +1,6 @@
 use Rattle.std.proofs.Common.{[], ◌∷◌, List, ℕ, ap, ◌∙◌}
 use Rattle.nfs_server.specs.Course.{loss_lines}
-use Rattle.nfs_server.proofs.Sayings.{told_both, told_as}
+use Rattle.run_lines.proofs.Sayings.{told_both, told_as}
 use Rattle.nfs_server.proofs.telling.tell_start.Goals as goal
 
 pub returns : goal.returns

@@ -5,6 +5,7 @@ use Rattle.volume.specs.Mounted.{store_of}
 use Rattle.nfs_worker.specs.Worker.{request_of}
 use Rattle.nfs_worker.proofs.Accounts.{grew_none}
 use Rattle.nfs_worker.proofs.Meanings.{asks_open, asks_first}
+use Rattle.nfs_worker.proofs.Resting.{stays_so}
 use Rattle.nfs_worker.proofs.answering.answer.Goals as goal
 
 pub returns-in-Err-clause-answers : goal.returns-in-Err-clause-answers
@@ -20,8 +21,8 @@ returns-in-Stale-clause-answers g c =
     let is : stale c.in-Stale.xid ≡ meaning c.args.bytes.now 1 = sym (ap means c.in-Stale.is) ∙ c.in-Ok.ensures.ok in
     record { holds = []; grows = grew_none g.S.Stable g.met.S.Stable.clocked (store_of c.args.cells.now.volume); comes = (refl, sym is ∙ ap Outside (sym c.stale_reply.ensures)); mine = tt; timed = tt }
 
-pub serve_call-requires : goal.serve_call-requires
-serve_call-requires g c =
+pub serve_call-requires-clause-row : goal.serve_call-requires-clause-row
+serve_call-requires-clause-row g c =
     let is : Asks c.in-Asks.xid _ c.in-Asks.cred c.in-Asks.call ≡ meaning c.args.bytes.now 1 = sym (ap means c.in-Asks.is) ∙ c.in-Ok.ensures.ok in
     (asks_open c.args.bytes.now 1 c.in-Asks.xid _ c.in-Asks.cred c.in-Asks.call is).row
 
@@ -37,3 +38,12 @@ returns-clause-answers g c =
       mine = (served.worker_is, tt);
       timed = (served.time_is, tt);
     }
+
+pub returns-in-Err-clause-rest : goal.returns-in-Err-clause-rest
+returns-in-Err-clause-rest g c = stays_so g.S.Stable c.args.cells.now.volume c.requires.rest
+
+pub returns-in-NoMeaning-clause-rest : goal.returns-in-NoMeaning-clause-rest
+returns-in-NoMeaning-clause-rest g c = stays_so g.S.Stable c.args.cells.now.volume c.requires.rest
+
+pub returns-in-Stale-clause-rest : goal.returns-in-Stale-clause-rest
+returns-in-Stale-clause-rest g c = stays_so g.S.Stable c.args.cells.now.volume c.requires.rest

@@ -6,6 +6,7 @@ use Rattle.nfs_worker.specs.Tending.{IsUntended}
 use Rattle.nfs_worker.specs.Worker.{worker_of}
 use Rattle.nfs_worker.proofs.Accounts.{grew_none}
 use Rattle.nfs_worker.proofs.Reactions.{turned_replied}
+use Rattle.nfs_worker.proofs.Resting.{stays_so}
 use Rattle.nfs_worker.proofs.Turns.{IsTaken, turned_quiet}
 use Rattle.nfs_worker.proofs.taking.take.Goals as goal
 
@@ -13,6 +14,7 @@ pub returns-in_default : goal.returns-in_default
 returns-in_default g c =
     let heard = c.recv-event.ensures in
     record {
+      rest = stays_so g.S.Stable c.args.cells.now.volume c.requires.rest;
       turned = turned_quiet g.S.Stable g.L.Link c.recv-event.result c.recv-event.new.into c.quiet.result c.in_default.not-Datagram refl refl (grew_none g.S.Stable g.met.S.Stable.clocked (store_of c.args.cells.now.volume))
           (record { takes = heard.takes; sent = heard.sent; later = heard.later; cause = heard.cause }) c.quiet.ensures;
       untended = record { battery = refl; polls = refl; ups = refl; tries = refl };

@@ -51,6 +51,8 @@ returns-in-Ok-test_inodes-clause-tables g c =
       some = omega arith;
       few = search rules;
       stand = λ i lt. let sizes = c.in-Ok.ensures.sizes in let s = c.in-Ok.super_block in sector_stands s.mark s.s_isize s.s_fsize (g.S.Stable.sector_count c.args.store.now) c.inodes_of-inodes.result i sizes c.inodes_of-inodes.ensures (omega arith);
+      sizes = c.in-Ok.ensures.sizes;
+      all = long ∙ ap (λ n. n + 1) c.inodes_of-inodes.ensures;
     }
 
 pub returns-clause-told : goal.returns-clause-told

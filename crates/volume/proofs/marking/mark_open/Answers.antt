@@ -14,7 +14,7 @@ returns-clause-done g c tells =
     let looked = c.in_ok-get_sector.ensures.looked in
     let read : c.read-super_block.result ≡ super_of (sector_at image 1) = c.read-super_block.ensures.record_of ∙ ap super_of (c.in_ok-get_sector.ensures.done tells) in
     on_ok_weaker c.put.result (λ is. marked image (S.image c.get_sector.new.store) c.read-super_block.result c.write.new.bytes c.args.now looked.image (c.requires.weak tells) read
-        (c.write.ensures.reads_back ∙ c.running-after.ensures) (c.write.ensures.bytes ∙ ap super_bytes c.running-after.ensures) _ is) (c.put.ensures.done tells)
+    (c.write.ensures.reads_back ∙ c.running-after.ensures) (c.write.ensures.bytes ∙ ap super_bytes c.running-after.ensures) _ is) (c.put.ensures.done tells)
 
 pub returns-clause-crash : goal.returns-clause-crash
 returns-clause-crash g c =
@@ -22,10 +22,10 @@ returns-clause-crash g c =
     let image = S.image c.args.store.now in
     let looked = c.in_ok-get_sector.ensures.looked in
     goes_on (weaker looked.crash (λ d left is. inl is)) c.put.ensures.crash (λ d left cut.
-        let tells = g.met.S.Stable.clocked.told _ _ d left in
-        let read : c.read-super_block.result ≡ super_of (sector_at image 1) = c.read-super_block.ensures.record_of ∙ ap super_of (c.in_ok-get_sector.ensures.done tells) in
-        mark_moment image (S.image c.get_sector.new.store) c.read-super_block.result c.write.new.bytes c.args.now looked.image (c.requires.weak tells) read
-        (c.write.ensures.reads_back ∙ c.running-after.ensures) (c.write.ensures.bytes ∙ ap super_bytes c.running-after.ensures) d cut)
+    let tells = g.met.S.Stable.clocked.told _ _ d left in
+    let read : c.read-super_block.result ≡ super_of (sector_at image 1) = c.read-super_block.ensures.record_of ∙ ap super_of (c.in_ok-get_sector.ensures.done tells) in
+    mark_moment image (S.image c.get_sector.new.store) c.read-super_block.result c.write.new.bytes c.args.now looked.image (c.requires.weak tells) read
+    (c.write.ensures.reads_back ∙ c.running-after.ensures) (c.write.ensures.bytes ∙ ap super_bytes c.running-after.ensures) d cut)
 
 pub returns-clause-opens : goal.returns-clause-opens
 returns-clause-opens g c tells t le opens =
@@ -34,5 +34,5 @@ returns-clause-opens g c tells t le opens =
     let looked = c.in_ok-get_sector.ensures.looked in
     let read : c.read-super_block.result ≡ super_of (sector_at image 1) = c.read-super_block.ensures.record_of ∙ ap super_of (c.in_ok-get_sector.ensures.done tells) in
     let name = mark_name image (S.image c.get_sector.new.store) c.read-super_block.result c.write.new.bytes c.args.now looked.image (c.requires.weak tells) read
-        (c.write.ensures.reads_back ∙ c.running-after.ensures) (c.write.ensures.bytes ∙ ap super_bytes c.running-after.ensures) in
+    (c.write.ensures.reads_back ∙ c.running-after.ensures) (c.write.ensures.bytes ∙ ap super_bytes c.running-after.ensures) in
     c.put.ensures.opens name t (omega (arith, le, looked.crash.later)) (looked.opens t le opens)

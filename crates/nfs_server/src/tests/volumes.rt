@@ -1,0 +1,105 @@
+//! Rigs with volumes, and what is on them.
+
+use rig_mem::MemRig;
+use std::alloc::Global;
+use std::test::Fail;
+use v7_layout::{Chain, Record, Super};
+use volume_mem::{Shape, test_volume};
+
+/// Another byte: its sector, its place there, and what it is.
+pub type Patch = (usize, usize, u8);
+
+/// A rig with this disk.
+pub fn rig_with(alloc: Global, disk: Vec<[u8; 512]>) -> MemRig {
+    let mut disk = disk;
+    // a rig asks that its sectors can be numbered
+    disk.truncate(64);
+    MemRig::with_disk(alloc, disk)
+}
+
+pub fn rig(alloc: Global, shape: Shape) -> Result<MemRig, Fail> {
+    Ok(rig_with(alloc, test_volume(alloc, shape)?))
+}
+
+/// The disk with these bytes, but those past its sectors' ends.
+pub fn patched(disk: Vec<[u8; 512]>, patches: &[Patch]) -> Vec<[u8; 512]> {
+    let mut disk = disk;
+    for (sector, at, byte) in patches {
+        if let Some(bytes) = disk.get_mut(*sector) {
+            if let Some(old) = bytes.get_mut(*at) {
+                *old = *byte;
+            }
+        }
+    }
+    disk
+}
+
+/// Whether this is the disk of the rig.
+pub fn has_disk(rig: &MemRig, wanted: &[[u8; 512]]) -> bool {
+    if rig.disk().len() != wanted.len() {
+        return false;
+    }
+    for (found, wanted) in rig.disk().iter().zip(wanted.iter()) {
+        if found != wanted {
+            return false;
+        }
+    }
+    true
+}
+
+/// Whether the sectors of the rig's inodes, directories and files, which end before this one, are those of this disk. The super-block and the
+/// blocks that are free change when a volume is opened and stopped.
+pub fn has_files(rig: &MemRig, wanted: &[[u8; 512]], past: usize) -> bool {
+    let sectors = rig.disk().iter().zip(wanted.iter()).take(past).skip(2);
+    for (found, wanted) in sectors {
+        if found != wanted {
+            return false;
+        }
+    }
+    rig.disk().len() == wanted.len()
+}
+
+/// Whether the rig has the files of such a volume.
+pub fn is_volume(alloc: Global, rig: &MemRig, shape: Shape) -> Result<bool, Fail> {
+    Ok(has_files(rig, &test_volume(alloc, shape)?, 7))
+}
+
+/// The super-block on the disk of a rig.
+pub fn super_of(rig: &MemRig) -> Option<Super> {
+    match rig.disk() {
+        [_, sector, ..] => Some(Super::read(sector)),
+        _ => None,
+    }
+}
+
+// A list of free blocks from one on down, so many of them, as a chain record holds it.
+fn falling(first: u32, count: usize) -> [u32; 50] {
+    let mut blocks = [0; 50];
+    for (place, block) in blocks.iter_mut().take(count).enumerate() {
+        *block = first.saturating_sub(place as u32);
+    }
+    blocks
+}
+
+/// Whether the volume was stopped cleanly at that second, with the free chain of the test volume, of blocks 7 to 63: eight in the super-block,
+/// the first of which holds the others.
+pub fn is_stopped(rig: &MemRig, second: u32) -> bool {
+    let Some(super_block) = super_of(rig) else {
+        return false;
+    };
+    let Some(sector) = rig.disk().get(14) else {
+        return false;
+    };
+    let mut rest = falling(64, 50);
+    rest[0] = 0;
+    let chain = Chain::read(sector);
+    super_block.s_fmod == 0
+        && super_block.s_time == second
+        && super_block.s_fpack == *b"VOLA00"
+        && super_block.s_tfree == 57
+        && super_block.s_tinode == 13
+        && super_block.s_nfree == 8
+        && super_block.s_free == falling(14, 8)
+        && chain.s_nfree == 50
+        && chain.s_free == rest
+}

@@ -1,0 +1,5 @@
+mod Cutting
+pub mod Loans
+pub mod Overlays
+pub mod Sayings
+pub mod Statuses
