@@ -40,7 +40,7 @@ use Rattle.volume.proofs.Reading.{getattr-idle, read-idle}
 -- ---- what stays
 
 -- the sets stay with the frame and the generations
-sets_stay : (old new : Image) (blocks inodes : List Bool) → frame new ≡ frame old → (view new).generations ≡ (view old).generations → AreSetsOf old blocks inodes → AreSetsOf new blocks inodes
+pub sets_stay : (old new : Image) (blocks inodes : List Bool) → frame new ≡ frame old → (view new).generations ≡ (view old).generations → AreSetsOf old blocks inodes → AreSetsOf new blocks inodes
 sets_stay old new blocks inodes same generations sets =
     subst (λ (m : FinMap nat_cmp ℕ). AreSets (frame new) m blocks inodes) (sym generations)
     (subst (λ (f : Frame). AreSets f (view old).generations blocks inodes) (sym same) sets)

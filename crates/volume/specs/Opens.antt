@@ -33,7 +33,7 @@ abbrev pub HasTitle : Image → Option Title → Type 0
 HasTitle image (Some title) = IsVolume image title.name title.root
 HasTitle image None = passes (frame image) Sizes ≡ false
 
--- An opening: the image found was mended, and this was told of that; then the volume was marked as open at that second, and has this name and this root.
+-- An opening: the image found was mended, as this tells; then the volume was marked as open at that second, and it has this name and this root.
 pub record IsOpened (old new : Image) (now : ℕ) (mended : Mended) (name : List ℕ) (root : FileId) : Type 0 where
   pub mid : Image
   pub repaired : IsRepaired old mid mended
@@ -46,7 +46,7 @@ Refuses old (fault.Damaged sector kind) new = IsFaultOf old (fault.Damaged secto
 Refuses old fault.Failed new = Unit {0}
 Refuses old fault.NoMemory new = new ≡ old
 
--- what was begun of an opening
+-- what an opening has done to its store
 abbrev pub Starts : Image → Image → ℕ → Result Opening RepairFault → Type 0
 Starts old new now (Ok opening) = IsOpened old new now opening.mended opening.title.name opening.title.root
 Starts old new now (Err why) = Refuses old why new
