@@ -4,6 +4,7 @@
 port=2049
 repository=$(cd "$(dirname "${BASH_SOURCE[0]}")/.." && pwd)
 program=${NFSD:-$repository/crates/nfsd/out/nfsd} # another build, where NFSD names one
+tool=${V7TOOL:-$repository/crates/v7tool/out/v7tool}
 folder=$(mktemp -d)
 disk=$folder/disk.img
 board=$folder/board.img
@@ -84,53 +85,33 @@ inode() {
     poke $((place + 48)) "$(le32 1)$(le32 1000)$(le32 1000)$(le32 1000)"
 }
 
-# The free list: blocks 63 to 15 fill it, block 14 takes it in, and 14 to 7 stand in the next one.
-free_list() {
-    local block first= second=
-    for ((block = 63; block >= 15; block--)); do
-        first+=$(le32 $block)
-    done
-    poke $((14 * 512)) "$(le16 50)$(le32 0)$first"
-    for ((block = 14; block >= 7; block--)); do
-        second+=$(le32 $block)
-    done
-    poke $((512 + 6)) "$(le16 8)$second"
+# run_tool WORD..: runs v7tool, shows what it says, and leaves that in `said`.
+run_tool() {
+    local status
+    said=$("$tool" "$@" 2>&1)
+    status=$?
+    say "v7tool ${*//"$folder/"/}: $said"
+    [ $status -eq 0 ] || fail "its status is $status"
 }
 
-# The free inodes, 16 to 4.
-inode_list() {
-    local number list=
-    for ((number = 16; number >= 4; number--)); do
-        list+=$(le16 $number)
-    done
-    poke $((512 + 208)) "$(le16 13)$list"
+# mkfs [BUFFERS]: a volume of 64 sectors with the root alone, and a board of so many buffers if there is one.
+mkfs() {
+    buffers=${1:-0}
+    run_tool mkfs "$volume" 64 16 "$buffers" VOLA00 1000
 }
 
-# The test volume: 64 sectors, the root with the file `f` in it, number 3, of 1,024 bytes `a`.
-make_volume() {
-    truncate -s $((64 * 512)) "$disk"
-    poke 512 "$(le16 4)$(le32 64)"
-    free_list
-    inode_list
-    poke $((512 + 414)) "$(le32 1000)$(le32 57)$(le16 13)"
-    poke $((512 + 434)) "$(text_hex VOLA00)$(le32 1)"
+# The file `f` in the root, number 3, of 1,024 bytes `a`. It is put there by hand, since no call that is served makes files.
+add_file() {
     inode 2 $((8#040755)) 2 0 48 4
     inode 3 $((8#100644)) 1 100 1024 5 6
-    poke $((4 * 512)) "$(le16 2)$(text_hex .)"
-    poke $((4 * 512 + 16)) "$(le16 2)$(text_hex ..)"
     poke $((4 * 512 + 32)) "$(le16 3)$(text_hex f)"
     file_of_letters | dd of="$disk" bs=4096 seek=$((5 * 512)) oflag=seek_bytes conv=notrunc status=none
 }
 
-# make_board BUFFERS: a board for that volume, without an entry, whose memory was kept.
-make_board() {
-    local kept=$((8 * ($1 + 1) + 512 * $1))
-    truncate -s 0 "$board"
-    truncate -s $((kept + 1)) "$board"
-    poke_in "$board" 0 "$(le32 0x544f5631)$(le32 0x50524553)" # PRESTOV1
-    poke_in "$board" 8 "$(le32 0x4c413030)$(le32 0x564f)"     # VOLA00
-    poke_in "$board" $kept 01
-    buffers=$1
+# checks WORD: v7tool says so of the volume, `clean` or `mendable`, with that file in it.
+checks() {
+    run_tool check "$volume"
+    [ "$said" = "$1 files 1 directories 1 links 0 used 3 free 57" ] || fail "it is not $1 with one file"
 }
 
 # entries: how many sectors the board holds, by its words.
@@ -143,17 +124,25 @@ file_of_letters() {
     head -c 1024 /dev/zero | tr '\0' a
 }
 
-# Finds the program, or proves and builds it.
-find_program() {
-    if [ -x "$program" ]; then
+# build FILE: the program of that crate, proved and built unless it is there.
+build() {
+    local crate
+    if [ -x "$1" ]; then
         return
     fi
-    say "building the program: rt run in crates/nfsd, which proves it first"
-    (cd "$repository/crates/nfsd" && rt run >"$folder/build.log" 2>&1)
-    if [ ! -x "$program" ]; then
+    crate=$(basename "$1")
+    say "building $crate: rt run in crates/$crate, which proves it first"
+    (cd "$repository/crates/$crate" && rt run >"$folder/build.log" 2>&1)
+    if [ ! -x "$1" ]; then
         tail -n 5 "$folder/build.log"
-        fail "the program could not be built"
+        fail "$crate could not be built"
     fi
+}
+
+# Finds the programs, or proves and builds them.
+find_programs() {
+    build "$program"
+    build "$tool"
 }
 
 # call DATAGRAM REPLY SECONDS: sends the file's bytes as one datagram, and keeps the one that comes back.

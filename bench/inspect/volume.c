@@ -3,11 +3,16 @@
 //   volume make few|many FILE    few: 10 files in the root; many: 64,000 files of 12 sectors in 640 directories
 //   volume read FILE             reads each sector of the i-list, each block of addresses and each directory's sector once, from memory; prints
 //                                milliseconds, the sectors that it read, and a sum of them
+//   volume pread FILE            the same by a positioned read each, from the file
+//   volume forget FILE           lets the system forget what it keeps of the file in memory
+#define _GNU_SOURCE
+#include <fcntl.h>
 #include <stdint.h>
 #include <stdio.h>
 #include <stdlib.h>
 #include <string.h>
 #include <time.h>
+#include <unistd.h>
 
 enum { SECTORS = 1048576, INODES = 65528, ISIZE = INODES / 8 + 2, FILES = 100 };
 
@@ -88,8 +93,12 @@ static void make_volume(int many) {
 
 static uint64_t sum, reads;
 
+// The file that is read, none where memory is.
+static int file_read = -1;
+
 static void read_sector(uint32_t s, uint8_t *into) {
-    memcpy(into, sector(s), 512);
+    if (file_read < 0) memcpy(into, sector(s), 512);
+    else if (pread(file_read, into, 512, 512ll * s) != 512) exit(1);
     sum += into[0] + into[511];
     reads++;
 }
@@ -109,9 +118,29 @@ static void read_all(void) {
     }
 }
 
+static void time_reading(void) {
+    struct timespec start, end;
+    clock_gettime(CLOCK_MONOTONIC, &start);
+    read_all();
+    clock_gettime(CLOCK_MONOTONIC, &end);
+    double ms = (end.tv_sec - start.tv_sec) * 1e3 + (end.tv_nsec - start.tv_nsec) / 1e6;
+    printf("%.1f %llu %llu\n", ms, (unsigned long long)reads, (unsigned long long)sum);
+}
+
 int main(int argc, char **argv) {
+    if (argc < 3) return 1;
+    if (strcmp(argv[1], "forget") == 0) {
+        int fd = open(argv[2], O_RDWR);
+        return fd < 0 || fdatasync(fd) != 0 || posix_fadvise(fd, 0, 0, POSIX_FADV_DONTNEED) != 0;
+    }
+    if (strcmp(argv[1], "pread") == 0) {
+        file_read = open(argv[2], O_RDONLY);
+        if (file_read < 0) return 1;
+        time_reading();
+        return 0;
+    }
     disk = calloc(SECTORS, 512);
-    if (disk == NULL || argc < 3) return 1;
+    if (disk == NULL) return 1;
     if (strcmp(argv[1], "make") == 0 && argc == 4) {
         make_volume(strcmp(argv[2], "many") == 0);
         FILE *file = fopen(argv[3], "wb");
@@ -119,11 +148,6 @@ int main(int argc, char **argv) {
     }
     FILE *file = fopen(argv[2], "rb");
     if (file == NULL || fread(disk, 512, SECTORS, file) != SECTORS) return 1;
-    struct timespec start, end;
-    clock_gettime(CLOCK_MONOTONIC, &start);
-    read_all();
-    clock_gettime(CLOCK_MONOTONIC, &end);
-    double ms = (end.tv_sec - start.tv_sec) * 1e3 + (end.tv_nsec - start.tv_nsec) / 1e6;
-    printf("%.1f %llu %llu\n", ms, (unsigned long long)reads, (unsigned long long)sum);
+    time_reading();
     return 0;
 }

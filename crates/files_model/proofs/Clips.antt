@@ -1,11 +1,9 @@
 -- A write below the size leaves the zeros past it.
-use Rattle.std.proofs.Common.{◌≡◌, ◌≢◌, ℕ, ◌+◌, ◌-◌, ◌*◌, ◌<◌, ◌≤◌, min, Some, List, [], ◌∷◌, ◌++◌, map, length, take, drop, replicate, refl, sym, ap, subst, ◌∙◌, arith, ⊎_elim, length-take, length-append, length-drop, take-append-drop, unwrap_or, drop-drop, drop_at, drop_of_length-le, append_assoc}
+use Rattle.std.proofs.Common.{◌≡◌, ◌≢◌, ℕ, ◌+◌, ◌-◌, ◌*◌, ◌<◌, ◌≤◌, min, List, [], ◌∷◌, ◌++◌, length, take, drop, replicate, refl, sym, ap, ◌∙◌, arith, ⊎_elim, length-take, length-append, length-drop, take-append-drop, drop-drop, drop_at, drop_of_length-le, append_assoc}
 use Rattle.std.proofs.lemmas.Bool.{cases_eq, cases_lt}
 use Rattle.std.proofs.lemmas.List.{length-replicate}
-use Rattle.std.specs.FinMap.{get}
-use Rattle.files_model.specs.Files.{Sectors, clipped, IsBody}
-use Rattle.files_model.specs.Step.{spliced, sector_of}
-use Rattle.files_model.proofs.Bodies.{all_clipped}
+use Rattle.files_model.specs.Files.{clipped}
+use Rattle.files_model.specs.Step.{spliced}
 
 -- a sector is as clipped if what stands past the size is zeros
 pub clipped_fixed : (size k : ℕ) (b : List ℕ) → drop (size - 512 * k) b ≡ replicate (512 - (size - 512 * k)) 0 → clipped size k b ≡ b
@@ -73,18 +71,3 @@ clipped-spliced size k offset bytes old long zeros inside =
 
     no_change : (n : ℕ) (old : List ℕ) → take n old ++ [] ++ drop (n + 0) old ≡ old
     no_change n old = simp (append_assoc) (let z : n + 0 ≡ n = omega arith in ap (λ m. take n old ++ drop m old) z ∙ take-append-drop n old)
-
--- each of these is held
-abbrev pub AllIn : Sectors → List ℕ → Type 0
-AllIn sectors [] = Unit {0}
-AllIn sectors (k ∷ ks) = ((b : List ℕ) × (get sectors k ≡ Some b)) × AllIn sectors ks
-
-pub clipped_changes : (size offset : ℕ) (bytes : List ℕ) (sectors : Sectors) → IsBody size sectors → offset + length bytes ≤ size → (ks : List ℕ) → AllIn sectors ks
-    → all_clipped size (map (λ k. (k, spliced offset bytes k (sector_of sectors k))) ks) ≡ map (λ k. (k, spliced offset bytes k (sector_of sectors k))) ks
-clipped_changes size offset bytes sectors body inside [] there = refl
-clipped_changes size offset bytes sectors body inside (k ∷ ks) there =
-    let b : List ℕ = there.0.0 in
-    let is : sector_of sectors k ≡ b = ap (λ o. unwrap_or o (replicate 512 0)) there.0.1 in
-    let one : clipped size k (spliced offset bytes k (sector_of sectors k)) ≡ spliced offset bytes k (sector_of sectors k) =
-    subst (λ z. clipped size k (spliced offset bytes k z) ≡ spliced offset bytes k z) (sym is) (clipped-spliced size k offset bytes b (body.long k b there.0.1) (body.zeros k b there.0.1) inside) in
-    λ i. (k, one i) ∷ clipped_changes size offset bytes sectors body inside ks there.1 i

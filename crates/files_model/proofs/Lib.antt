@@ -1,3 +1,3 @@
 pub mod Maps
 pub mod Clips
-pub mod Bodies
+pub mod Batches

@@ -4,3 +4,5 @@ pub mod Space
 pub mod Step
 pub mod Torn
 pub mod History
+pub mod Among
+pub mod Batch

@@ -5,6 +5,10 @@ use Rattle.std.specs.FinMap.{get}
 use Rattle.files_model.specs.Files.{Node, Files, sectors_of}
 use Rattle.files_model.specs.Permission.{is_directory}
 
+-- the greatest size of a file in bytes, 138 sectors
+abbrev pub size_limit : ℕ
+size_limit = 70656
+
 -- a directory holds every sector of its list of slots
 abbrev pub is_held : Node → ℕ → Bool
 is_held n k = if is_directory n.kind then nat_lt k (sectors_of n.size) else is_some (get n.sectors k)

@@ -1,6 +1,6 @@
 -- What a call answers, and the files that it leaves: one row a call (docs/CALLS.md). The rows grow; `has_row` says which stand.
-use Rattle.std.specs.Prelude.{ℕ, ◌+◌, ◌-◌, ◌*◌, ◌/◌, max, min, Bool, true, false, List, [], ◌∷◌, ◌++◌, length, take, drop, replicate, map, Option, Some, None, ◌==◌, nat_le, if◌then◌else◌, is_some, not, ◌&&◌}
-use Rattle.std.specs.List.{range_with_len, list_all, flat_map}
+use Rattle.std.specs.Prelude.{ℕ, ◌+◌, ◌-◌, ◌*◌, ◌/◌, max, min, Bool, true, false, List, [], ◌∷◌, ◌++◌, length, take, drop, replicate, map, Option, Some, None, ◌==◌, nat_lt, if◌then◌else◌, not, ◌&&◌}
+use Rattle.std.specs.List.{range_with_len, flat_map}
 use Rattle.std.specs.Option.{unwrap_or}
 use Rattle.std.specs.FinMap.{get, insert}
 use Rattle.files_model.specs.declared.attributes.FileId.{FileId}
@@ -14,6 +14,7 @@ use Rattle.files_model.specs.declared.reply.Reply.TheVariants as reply
 use Rattle.files_model.specs.declared.call.Call.{Call}
 use Rattle.files_model.specs.declared.call.Call.TheVariants as call
 use Rattle.files_model.specs.Files.{Node, Files, Sectors, sectors_of, live}
+use Rattle.files_model.specs.Space.{size_limit, node_usage, free}
 use Rattle.files_model.specs.Permission.{allows, is_directory, is_link}
 
 -- ---- bytes
@@ -78,21 +79,18 @@ at_live files (Some n) answer = answer n
 
 -- ---- the rows
 
--- a write lies inside the file, and each sector that it touches is held
-abbrev pub is_inside : Node → ℕ → ℕ → Bool
-is_inside n offset count = nat_le (offset + count) n.size && list_all (λ k. is_some (get n.sectors k)) (touched offset count)
-
--- the refusals of WRITE in their order
-abbrev pub write_refusal : Files → FileId → Node → Cred → ℕ → List ℕ → Option Stat
-write_refusal files file n cred offset bytes = first_of (
+-- the refusals of WRITE in their order. NOSPC is where the data blocks and the block of addresses to be added are more than the free ones
+abbrev pub write_refusal : Files → FileId → Node → Cred → ℕ → List ℕ → ℕ → Option Stat
+write_refusal files file n cred offset bytes now = first_of (
     (files.read_only, stat.Rofs) ∷ (is_directory n.kind, stat.Isdir) ∷ (is_link n.kind, stat.Nxio)
     ∷ (not (allows cred (attr_of file.ino n) want.Write), stat.Acces)
-    ∷ (not (is_inside n offset (length bytes)), stat.Fbig) ∷ [])
+    ∷ (nat_lt size_limit (offset + length bytes), stat.Fbig)
+    ∷ (nat_lt (free files) (node_usage (written n offset bytes now) - node_usage n), stat.Nospc) ∷ [])
 
 -- WRITE (RFC 1094 2.2.9)
 unfoldable pub write_row : Files → FileId → ℕ → List ℕ → Cred → ℕ → Reply × Files
 write_row files file offset bytes cred now = at_live files (live files file) (λ n.
-    unless files (write_refusal files file n cred offset bytes)
+    unless files (write_refusal files file n cred offset bytes now)
     (reply.Attr (attr_of file.ino (written n offset bytes now)), with_node files file.ino (written n offset bytes now)))
 
 -- GETATTR (RFC 1094 2.2.2)

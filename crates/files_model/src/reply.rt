@@ -33,3 +33,10 @@ pub enum Reply {
     Entries { list: Entries, end: bool },
     Space { blocks: u32, free: u32 },
 }
+
+/// What fills the places of a list of fixed capacity that aren't used.
+impl Default for Reply {
+    fn default() -> Reply {
+        Reply::Done
+    }
+}

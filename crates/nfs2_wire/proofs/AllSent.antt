@@ -12,8 +12,7 @@ use Rattle.nfs2_wire.specs.Handles.{handle, handle_of, second}
 use Rattle.nfs2_wire.specs.Arguments.{getattr_args, read_args, write_args}
 use Rattle.nfs2_wire.specs.Shapes.{set_of, sattr, dirop, set_args, name_args, new_args, rename_args, link_args, symlink_args, part_args}
 use Rattle.nfs2_wire.specs.AllCalls.{opened, getattr_call, setattr_call, lookup_call, readlink_call, read_call, write_call, create_call, remove_call, rename_call, link_call, symlink_call, mkdir_call, rmdir_call, readdir_call, statfs_call, nfs_call}
-use Rattle.nfs2_wire.specs.Sending.{read_bytes, write_bytes, FileFits}
-use Rattle.nfs2_wire.specs.AllSending.{word_of, sattr_bytes, dirop_bytes, arguments_of, procedure_of, WordFits, SattrFits, CanBeCalled}
+use Rattle.nfs2_wire.specs.AllSending.{read_bytes, write_bytes, FileFits, word_of, sattr_bytes, dirop_bytes, arguments_of, procedure_of, WordFits, SattrFits, CanBeCalled}
 use Rattle.nfs2_wire.proofs.Handles.{handle_again}
 use Rattle.nfs2_wire.proofs.Lengths.{length-handle_of}
 

@@ -1,4 +1,3 @@
 pub mod Handles
 pub mod Lengths
-pub mod Sent
 pub mod AllSent

@@ -6,7 +6,6 @@ use Rattle.files_model.specs.declared.call.Call.{Call}
 use Rattle.files_model.specs.declared.call.Call.TheVariants as call
 use Rattle.xdr_rpc.specs.Words.{words, opaque_bytes}
 use Rattle.nfs2_wire.specs.Handles.{handle_of}
-use Rattle.nfs2_wire.specs.Sending.{read_bytes, write_bytes, FileFits}
 
 -- ---- the arguments
 
@@ -22,6 +21,14 @@ sattr_bytes s = words (word_of s.mode ∷ word_of s.uid ∷ word_of s.gid ∷ wo
 -- a handle and a name (RFC 1094 2.3.10, diropargs)
 unfoldable pub dirop_bytes : ℕ → FileId → List ℕ → List ℕ
 dirop_bytes volume dir name = handle_of volume dir ++ opaque_bytes name
+
+-- a handle, the offset, the count, and totalcount
+unfoldable pub read_bytes : ℕ → FileId → ℕ → ℕ → List ℕ
+read_bytes volume file offset count = handle_of volume file ++ words (offset ∷ count ∷ 0 ∷ [])
+
+-- the handle, beginoffset, the offset, totalcount, and the bytes
+unfoldable pub write_bytes : ℕ → FileId → ℕ → List ℕ → List ℕ
+write_bytes volume file offset bytes = handle_of volume file ++ words (0 ∷ offset ∷ 0 ∷ []) ++ opaque_bytes bytes
 
 -- the arguments of a call on a volume, with what follows them
 abbrev pub arguments_of : ℕ → Call → List ℕ → List ℕ
@@ -60,6 +67,11 @@ procedure_of (call.Readdir dir cookie count) = 16
 procedure_of (call.Statfs file) = 17
 
 -- ---- what fits
+
+-- a file whose numbers fit their words
+pub record FileFits (file : FileId) : Type 0 where
+  pub ino : file.ino < 2 ^ 32
+  pub generation : file.generation < 2 ^ 32
 
 -- it isn't all ones, which would say that it isn't set
 abbrev pub WordFits : Option ℕ → Type 0

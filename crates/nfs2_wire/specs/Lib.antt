@@ -4,6 +4,4 @@ pub mod Shapes
 pub mod AllCalls
 pub mod Replies
 pub mod Bounds
-pub mod Meaning
-pub mod Sending
 pub mod AllSending

@@ -4,7 +4,6 @@
 mod all_calls;
 mod arguments;
 mod attributes;
-mod datagram;
 mod entries;
 mod handle;
 mod on_volume;
@@ -14,8 +13,6 @@ mod room;
 mod shapes;
 
 pub use all_calls::{NfsCall, read_arguments};
-pub use arguments::{NfsRead, read_nfs};
-pub use datagram::{Datagram, read_datagram};
 pub use handle::handle_bytes;
 pub use reply::{stale_reply, write_reply};
 pub use room::{Room, longest};

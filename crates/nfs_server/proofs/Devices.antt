@@ -2,7 +2,6 @@
 use Rattle.std.proofs.Common.{arith, ◌≡◌, ⊎_elim, true}
 use Rattle.stable.specs.Counts.{Rose}
 use Rattle.rig.specs.declared.rig.Rig.{Ghosts}
-use Rattle.nvram_map.specs.declared.fault.BoardFault.{BoardFault}
 use Rattle.nvram_map.specs.declared.fault.BoardFault.TheVariants as board
 use Rattle.presto_recover.specs.Refused.{IsReason}
 use Rattle.presto_recover.specs.declared.fault.OpenFault.{OpenFault as UnitFault}
@@ -37,4 +36,4 @@ module _ {R : Type 0} (r : Ghosts R) (options : Options) (rig back : R) where
   device_failed (NoUnit fault) found is = unit_failed fault found.reason is
   device_failed (NoVolume fault) found is = found.failed (volume_failed fault is)
   device_failed (NoPost start fault stop) found is = absurd (host_not fault 74 (λ e. omega (arith, e)) (λ e. omega (arith, e)) is)
-  device_failed (Ran start way did stop) found is = stop_failed start stop found (closing_failed way (fails stop) is)
+  device_failed (Ran start way did stop) found is = stop_failed start stop found.0 (closing_failed way (fails stop) is)

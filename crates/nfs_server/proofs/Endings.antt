@@ -1,5 +1,5 @@
 -- How a run ends, by whether a device failed in stopping.
-use Rattle.std.proofs.Common.{arith, ◌≡◌, ◌≢◌, ◌⊎◌, inl, inr, ℕ, zero, suc, ◌≤◌, ◌<◌, ◌||◌, Bool, true, false, [], ◌∷◌, nat_lt, refl, sym}
+use Rattle.std.proofs.Common.{arith, ◌≡◌, ◌≢◌, ◌⊎◌, inl, inr, ℕ, zero, suc, ◌≤◌, ◌||◌, Bool, true, false, [], ◌∷◌, nat_lt, refl, sym}
 use Rattle.nfs_server.specs.Course.{Stop, fails, last_lines, end_lines, end_status, closing_status}
 use Rattle.nfs_worker.specs.declared.turning.Ended.{Ended}
 use Rattle.nfs_worker.specs.declared.turning.Ended.TheVariants as ended

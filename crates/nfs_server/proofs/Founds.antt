@@ -18,7 +18,7 @@ use Rattle.presto_unit.specs.declared.presto.Presto.{Presto}
 use Rattle.v7_map.specs.Frame.{frame}
 use Rattle.v7_map.specs.Weak.{IsWeak}
 use Rattle.v7_damage.specs.Undamaged.{IsFaultOf}
-use Rattle.volume.specs.Opens.{name_in}
+use Rattle.volume.specs.Opens.{name_in, root_in}
 use Rattle.nfs_worker.specs.Tending.{IsError}
 use Rattle.run_lines.specs.Overlays.{overlay_of}
 use Rattle.run_lines.proofs.Overlays.{unit_store}
@@ -90,4 +90,4 @@ module _ {R : Type 0} (r : Ghosts R) (clocked : IsClocked r.tells r.contents r.m
     failed = λ failed. risen (opens.failed failed);
   }
   found_by (NoPost start fault stop) opens = found start stop opens
-  found_by (Ran start way did stop) opens = found start stop opens
+  found_by (Ran start way did stop) opens = (found start stop opens.0, λ tells. subst (λ (i : Image). did.desk.root ≡ root_in i) (same tells) (opens.1 tells))

@@ -1,45 +1,53 @@
 -- How a volume on a store was started and stopped, one run after another.
-use Rattle.std.proofs.Common.{arith, ◌≡◌, ◌≢◌, ◌⊎◌, inl, inr, ◌∙◌, ℕ, ◌≤◌, Bool, true, false, List, [], ◌∷◌, refl, sym, ap, subst}
-use Rattle.index_sets.specs.Free.{count_free}
+use Rattle.std.proofs.Common.{arith, ◌≡◌, ◌≢◌, ◌⊎◌, inl, inr, ◌∙◌, ℕ, ◌+◌, ◌<◌, ◌≤◌, ◌==◌, cond, Some, None, Bool, true, false, List, [], ◌∷◌, refl, sym, ap, subst}
+use Rattle.files_model.specs.declared.attributes.FileId.{FileId}
 use Rattle.stable.specs.Counts.{RoseBy, Rose}
 use Rattle.stable.specs.States.{StaysOrFails}
 use Rattle.stable.specs.Store.{Image}
 use Rattle.stable.specs.declared.state.State.TheVariants.{Up}
 use Rattle.stable.specs.declared.store.Stable.{Ghosts}
-use Rattle.v7_layout.specs.declared.super_block.Super.{Super}
 use Rattle.v7_map.specs.Frame.{Frame, frame}
-use Rattle.v7_map.specs.Weak.{IsWeak, IsStrong}
+use Rattle.v7_map.specs.Weak.{IsWeak}
 use Rattle.v7_damage.specs.declared.damage.RepairFault.{RepairFault}
 use Rattle.v7_damage.specs.declared.damage.RepairFault.TheVariants as repair
-use Rattle.v7_make.specs.Chains.{IsChained}
-use Rattle.v7_sets.specs.Sets.{AreSetsOf}
 use Rattle.volume.specs.Keeps.{MayOpen}
-use Rattle.volume.specs.Opens.{Refuses, name_in}
-use Rattle.volume.proofs.Resting.{sets_stay}
+use Rattle.std.specs.FinMap.{get}
+use Rattle.files_model.specs.Files.{Files}
+use Rattle.files_model.proofs.Maps.{get-tabulated}
+use Rattle.v7_map.specs.Image.{inode_at}
+use Rattle.v7_map.specs.Tree.{tree}
+use Rattle.v7_map.specs.View.{view, files_of}
+use Rattle.volume.specs.Opens.{Refuses, name_in, root_in}
+use Rattle.nfs_worker.specs.declared.desk.Desk.{Desk}
 use Rattle.nfs_server.specs.Course.{Course, Start, Stop, Usage, NoRig, NoUnit, NoVolume, NoPost, Ran}
-use Rattle.nfs_server.specs.Run.{IsRun, IsRefusedAs, IsServedAs, RunsAs, OpensAs, EachPair}
-use Rattle.nfs_server.specs.Stopped.{IsStoppedCleanly, StopsAs}
+use Rattle.nfs_server.specs.Run.{IsRun, IsRefusedAs, RunsAs, OpensAs, EachPair}
+use Rattle.nfs_server.specs.Stopped.{StopsAs}
 use Rattle.nfs_server.specs.declared.starting.Recovery.{Recovery}
-
--- the chain was written of a volume with nothing to mend
-pub stopped_cleanly : (old new : Image) (blocks inodes : List Bool) (now : ℕ) → IsStrong (frame old) → AreSetsOf old blocks inodes → IsChained old new blocks inodes now → IsStoppedCleanly new
-stopped_cleanly old new blocks inodes now strong sets chained = record {
-  strong = subst (λ (f : Frame). IsStrong f) (sym chained.keeps.frame) strong;
-  clean = ap (λ (s : Super). s.s_fmod) chained.stopped;
-  blocks = blocks;
-  inodes = inodes;
-  sets = sets_stay old new blocks inodes chained.keeps.frame (ap (λ files. files.generations) chained.keeps.view) sets;
-  takes = chained.takes;
-  places = chained.places;
-  listed = chained.listed;
-  free_blocks = ap (λ (s : Super). s.s_tfree) chained.stopped;
-  free_inodes = ap (λ (s : Super). s.s_tinode) chained.stopped;
-}
 
 -- the opening keeps the volume's name
 pub name_stays : (old new : Image) → MayOpen old new → name_in new ≡ name_in old
 name_stays old new (inl same) = ap (λ (i : Image). name_in i) same
 name_stays old new (inr keeps) = keeps.name
+
+-- ---- the root
+
+generation_in : (image : Image) → 2 < (tree (frame image)).inodes + 1 → get (view image).generations 2 ≡ Some (inode_at image 2).generation
+unfolding view files_of
+generation_in image high = get-tabulated (λ i. cond (i == 0) None (Some (inode_at image i).generation)) ((tree (frame image)).inodes + 1) 2 high
+
+has_root : (f : Frame) → IsWeak f → 2 < (tree f).inodes + 1
+has_root f weak = let low = weak.sizes.low in omega (arith, low)
+
+same_inside : (m n : ℕ) → Some m ≡ Some n → m ≡ n
+same_inside m n is = cc
+
+-- the opening keeps the volume's root
+pub root_stays : (old new : Image) → IsWeak (frame old) → MayOpen old new → root_in new ≡ root_in old
+root_stays old new weak (inl same) = ap (λ (i : Image). root_in i) same
+root_stays old new weak (inr keeps) =
+    let before = generation_in old (has_root (frame old) weak) in
+    let after = generation_in new (has_root (frame new) keeps.files.weak) in
+    ap (λ (n : ℕ). record { ino = 2; generation = n }) (same_inside _ _ (sym after ∙ ap (λ (f : Files). get f.generations 2) keeps.files.view ∙ before))
 
 module _ {V : Type 0} (s : Ghosts V) where
   -- and since an earlier store, of which the volume was hurt only where a device failed
@@ -83,13 +91,13 @@ module _ {V : Type 0} (s : Ghosts V) where
         opened (inr failed) not = absurd (not failed.0)
 
     -- a volume of that name, which could be mended, was opened on it
-    pub opens_as : {name : List ℕ} (course : Course) → (s.tells → IsWeak (frame (s.image store))) → (s.tells → name ≡ name_in (s.image store)) → RunsAs s down false recovery mid store' name course → OpensAs s down recovery store store' course
-    opens_as Usage weak named runs = absurd runs
-    opens_as (NoRig word fault) weak named runs = absurd runs
-    opens_as (NoUnit fault) weak named runs = absurd runs
-    opens_as (NoVolume fault) weak named runs = absurd runs
-    opens_as (NoPost start fault stop) weak named runs = record { weak = weak; named = λ told. runs.0 ∙ named told; run = run_opened runs.1 }
-    opens_as (Ran start way did stop) weak named runs = record { weak = weak; named = λ told. runs.0 ∙ named told; run = run_opened runs.1 }
+    pub opens_as : {name : List ℕ} (root : FileId) (course : Course) → (s.tells → IsWeak (frame (s.image store))) → (s.tells → name ≡ name_in (s.image store)) → (s.tells → root ≡ root_in (s.image store)) → RunsAs s down false recovery mid store' name root course → OpensAs s down recovery store store' course
+    opens_as root Usage weak named rooted runs = absurd runs
+    opens_as root (NoRig word fault) weak named rooted runs = absurd runs
+    opens_as root (NoUnit fault) weak named rooted runs = absurd runs
+    opens_as root (NoVolume fault) weak named rooted runs = absurd runs
+    opens_as root (NoPost start fault stop) weak named rooted runs = record { weak = weak; named = λ told. runs.0 ∙ named told; run = run_opened runs.1 }
+    opens_as root (Ran start way did stop) weak named rooted runs = (record { weak = weak; named = λ told. runs.0 ∙ named told; run = run_opened runs.1 }, λ told. ap (λ (d : Desk). d.root) runs.2 ∙ rooted told)
 
 -- what holds of each pair, by what it follows from
 pub each_pair : {A : Type 0} {P Q : A → A → Type 0} → ((x y : A) → P x y → Q x y) → (xs : List A) (ys : List (ℕ × A)) → EachPair P xs ys → EachPair Q xs ys

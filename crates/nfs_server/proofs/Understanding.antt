@@ -1,5 +1,5 @@
 -- What the words have to do with the course of a run.
-use Rattle.std.proofs.Common.{arith, ◌≡◌, ◌∙◌, ℕ, Option, Some, None, IsSome, refl, sym, ap, subst}
+use Rattle.std.proofs.Common.{arith, ◌≡◌, Option, Some, IsSome, refl, sym, subst}
 use Rattle.nfs_server.specs.Course.{Course, Usage, NoRig, NoUnit, NoVolume, NoPost, Ran, rigs_in}
 use Rattle.nfs_server.specs.Run.{EndsAs, Understood, options_of}
 use Rattle.nfs_server.specs.Words.{Asked}

@@ -33,7 +33,7 @@ pub record Stop : Type 0 where
   pub hurt : Bool
   pub unwritten : Bool
 
--- How far a run came: the words aren't of the grammar; the host gave no rig; disk and board weren't opened; there is no volume that can be mended; the host gave no post; a worker ran.
+-- How far a run came: the words aren't of the grammar; the host gave no rig; disk and board weren't opened; there is no volume that can be mended; the host gave no post, or there was no memory for a worker; a worker ran.
 pub data Course : Type 0 where
   Usage : Course
   NoRig : List ℕ → HostFault → Course
@@ -61,6 +61,7 @@ pub record IsStarted (down : Bool) (old new : Snapshot) : Type 0 where
   pub state : new.state ≡ state_after down old.state new.battery
   pub dirty : new.dirty ≡ old.dirty
   pub polls : new.polls ≡ old.polls
+  pub puts : new.puts ≡ old.puts
 
 -- ---- statuses
 

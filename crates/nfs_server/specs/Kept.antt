@@ -1,5 +1,5 @@
 -- What a run says of the rig of a volume, of what disk and board stand for together (docs/DEVICES.md, "The unit").
-use Rattle.std.specs.Prelude.{◌≡◌, ◌≢◌, ◌≤◌, ◌+◌, ℕ, Bool, true, false, List, [], length}
+use Rattle.std.specs.Prelude.{◌≡◌, ◌≢◌, ◌≤◌, ◌+◌, ℕ, Bool, true, false, List, length}
 use Rattle.files_model.specs.History.{failures}
 use Rattle.stable.specs.Counts.{Rose, RoseBy}
 use Rattle.stable.specs.Store.{Image}
@@ -16,7 +16,8 @@ use Rattle.v7_map.specs.Weak.{IsWeak}
 use Rattle.v7_damage.specs.Undamaged.{IsFaultOf}
 use Rattle.v7_damage.specs.declared.damage.RepairFault.{RepairFault}
 use Rattle.v7_damage.specs.declared.damage.RepairFault.TheVariants as repair
-use Rattle.volume.specs.Opens.{name_in}
+use Rattle.volume.specs.Keeps.{SameName}
+use Rattle.volume.specs.Opens.{name_in, root_in}
 use Rattle.run_lines.specs.Overlays.{overlay_of, overlays_of}
 use Rattle.nfs_worker.specs.Account.{Hold, history, HasGrown, IsRecovered, MarksWithin, Lasts}
 use Rattle.nfs_worker.specs.Tending.{IsError}
@@ -35,6 +36,8 @@ pub record Kept {R : Type 0} (r : Ghosts R) (rig back : R) (holds : List Hold) :
   pub crash : (image : Image) → overlays_of r back (r.moment rig) image → IsWeak (frame (overlay_of r rig)) → IsRecovered (view (overlay_of r rig)) holds image
   -- and one since a hold's mark has that hold
   pub lasts : r.tells → IsWeak (frame (overlay_of r rig)) → Lasts (overlays_of r back) (view (overlay_of r rig)) holds
+  -- the volume's name stays
+  pub named : r.tells → SameName (overlay_of r rig) (overlay_of r back)
   -- what could be opened can be opened again after a sound crash at any moment
   pub opens : IsOpenable (r.sizes rig) (r.contents rig) → opens_since r.sizes r.left_since back (r.moment rig)
 
@@ -83,4 +86,5 @@ FoundAs r options (NoRig word fault) rig back = ⊥
 FoundAs r options (NoUnit fault) rig back = IsNotOpened r options rig back fault
 FoundAs r options (NoVolume fault) rig back = HasNone r options rig back fault
 FoundAs r options (NoPost start fault stop) rig back = IsFound r options rig back start stop
-FoundAs r options (Ran start way did stop) rig back = IsFound r options rig back start stop
+-- MNT gave the root of the volume found
+FoundAs r options (Ran start way did stop) rig back = IsFound r options rig back start stop × (r.tells → did.desk.root ≡ root_in (overlay_of r rig))

@@ -1,5 +1,5 @@
 -- What a run of the server does (docs/CALLS.md, "Lines and statuses").
-use Rattle.std.specs.Prelude.{◌≡◌, ◌≢◌, ◌⊎◌, ℕ, ◌+◌, ◌-◌, ◌≤◌, Bool, true, false, List, [], ◌∷◌, ◌++◌, length, Option, Some, None, IsSome}
+use Rattle.std.specs.Prelude.{◌≡◌, ◌≢◌, ◌⊎◌, ℕ, ◌+◌, ◌-◌, ◌≤◌, Bool, false, List, [], ◌∷◌, ◌++◌, length, Option, Some, None, IsSome}
 use Rattle.std.specs.List.{flat_map}
 use Rattle.stable.specs.Counts.{Rose, RoseBy}
 use Rattle.stable.specs.declared.state.State.TheVariants.{Up}
@@ -18,10 +18,14 @@ use Rattle.v7_map.specs.Weak.{IsWeak}
 use Rattle.v7_damage.specs.Undamaged.{IsFaultOf}
 use Rattle.v7_damage.specs.declared.damage.RepairFault.{RepairFault}
 use Rattle.v7_damage.specs.declared.damage.RepairFault.TheVariants as repair
-use Rattle.volume.specs.Opens.{name_in}
+use Rattle.volume.specs.Opens.{name_in, root_in}
 use Rattle.run_lines.specs.Refusals.{host_status, host_line}
 use Rattle.run_lines.specs.Told.{Said, Told, Loan}
 use Rattle.nfs_worker.specs.Account.{Hold, Grew, history}
+use Rattle.files_model.specs.declared.attributes.FileId.{FileId}
+use Rattle.mount1.specs.Rows.{Kept as Mounted}
+use Rattle.nfs_worker.specs.Desk.{new_desk}
+use Rattle.nfs_worker.specs.declared.desk.Desk.{Desk}
 use Rattle.nfs_worker.specs.Turns.{Did, EndsBy, datagrams}
 use Rattle.nfs_worker.specs.Worker.{Own, owned, worker_of, Works}
 use Rattle.nfs_worker.specs.declared.pass.Numbers.{Numbers}
@@ -47,11 +51,15 @@ Volumes kept n [] [] [] = Unit {0}
 Volumes kept n (rig ∷ rigs) (back ∷ backs) (holds ∷ more) = (back.0 ≡ n) × kept rig back.1 holds × Volumes kept (n + 1) rigs backs more
 Volumes kept n _ _ _ = ⊥
 
--- Each post came back under its number, and its worker did this.
+-- the list of mounts at the beginning, where so many volumes are open
+abbrev pub no_mounts : ℕ → Mounted
+no_mounts volumes = record { volumes = volumes; rows = [] }
+
+-- Each post came back under its number, and its worker did this. No machine had mounted anything before.
 abbrev pub Workers : {L C P : Type 0} → LinkGhosts L → ℕ → ℕ → List (Post L C P) → List (ℕ × Post L C P) → List Did → Type 0
 Workers l volumes n [] [] [] = Unit {0}
 Workers l volumes n (post ∷ posts) (back ∷ backs) (did ∷ dids) =
-    (back.0 ≡ n) × Works volumes n (worker_of l post.link) (worker_of l back.1.link) did.heard did.own did.replies × Workers l volumes (n + 1) posts backs dids
+    (back.0 ≡ n) × ((did.desk.mounts ≡ no_mounts volumes) × Works volumes n did.desk did.then (worker_of l post.link) (worker_of l back.1.link) did.heard did.own did.replies) × Workers l volumes (n + 1) posts backs dids
 Workers l volumes n _ _ _ = ⊥
 
 -- the events of volume n and of those after it
@@ -95,7 +103,7 @@ EndsAs turns (NoPost start fault stop) = Unit {0}
 -- ---- a run over a store
 
 -- The worker ran over its post, and the post came back. Nothing was said.
-pub record RanPost {S R L C P V : Type 0} (h : Ghosts S R L C P) (say : SayGhosts S) (l : LinkGhosts L) (c : ClockGhosts C) (s : StoreGhosts V) (old new : S) (store store' : V) (post : Post L C P) (turns : ℕ) (way : Ended) (numbers : Numbers) : Type 0 where
+pub record RanPost {S R L C P V : Type 0} (h : Ghosts S R L C P) (say : SayGhosts S) (l : LinkGhosts L) (c : ClockGhosts C) (s : StoreGhosts V) (old new : S) (store store' : V) (desk : Desk) (post : Post L C P) (turns : ℕ) (way : Ended) (numbers : Numbers) : Type 0 where
   pub did : Did
   pub back : Post L C P
   pub holds : List Hold
@@ -105,7 +113,8 @@ pub record RanPost {S R L C P V : Type 0} (h : Ghosts S R L C P) (say : SayGhost
   pub faults : h.host_faults new ≡ h.host_faults old
   pub lines : SameLines say.lines say.say_faults old new
   pub grows : Grew s store store' holds
-  pub works : Works 1 0 (worker_of l post.link) (worker_of l back.link) did.heard did.own did.replies
+  pub began : did.desk ≡ desk
+  pub works : Works 1 0 did.desk did.then (worker_of l post.link) (worker_of l back.link) did.heard did.own did.replies
   pub shared : owned 0 (history holds) ≡ did.own
   pub ends : EndsBy way turns did.heard
   pub received : numbers.received ≡ datagrams did.heard
@@ -113,7 +122,7 @@ pub record RanPost {S R L C P V : Type 0} (h : Ghosts S R L C P) (say : SayGhost
   pub polled : RoseBy (changes_in c post back) (s.snapshot_of store).polls (s.snapshot_of store').polls
 
 -- The worker ran over its post, the volume was stopped, and the closing lines were said; `was` says whether the volume was hurt before.
-pub record ServedPost {S R L C P V : Type 0} (h : Ghosts S R L C P) (say : SayGhosts S) (l : LinkGhosts L) (c : ClockGhosts C) (s : StoreGhosts V) (turns : ℕ) (was : Bool) (old new : S) (store store' : V) (post : Post L C P) (result : ℕ) : Type 0 where
+pub record ServedPost {S R L C P V : Type 0} (h : Ghosts S R L C P) (say : SayGhosts S) (l : LinkGhosts L) (c : ClockGhosts C) (s : StoreGhosts V) (turns : ℕ) (was : Bool) (old new : S) (store store' : V) (desk : Desk) (post : Post L C P) (result : ℕ) : Type 0 where
   pub did : Did
   pub back : Post L C P
   pub holds : List Hold
@@ -124,7 +133,8 @@ pub record ServedPost {S R L C P V : Type 0} (h : Ghosts S R L C P) (say : SayGh
   pub returned : h.posts_back new ≡ gains (h.posts_back old) (0, back)
   pub faults : h.host_faults new ≡ h.host_faults old
   pub grows : Grew s store store' holds
-  pub works : Works 1 0 (worker_of l post.link) (worker_of l back.link) did.heard did.own did.replies
+  pub began : did.desk ≡ desk
+  pub works : Works 1 0 did.desk did.then (worker_of l post.link) (worker_of l back.link) did.heard did.own did.replies
   pub shared : owned 0 (history holds) ≡ did.own
   pub ends : EndsBy way turns did.heard
   pub polled : RoseBy (changes_in c post back) (s.snapshot_of store).polls (s.snapshot_of store').polls
@@ -132,7 +142,7 @@ pub record ServedPost {S R L C P V : Type 0} (h : Ghosts S R L C P) (say : SayGh
   pub status : result ≡ closing_status way (fails stop)
   pub said : Said say old new (closing_lines stop way (datagrams did.heard) (length did.replies))
 
--- The host gave no post: the volume was stopped.
+-- The host gave no post, or there was no memory: the volume was stopped.
 pub record RefusedPost {S R L C P V : Type 0} (h : Ghosts S R L C P) (say : SayGhosts S) (s : StoreGhosts V) (fault : HostFault) (was : Bool) (old new : S) (store store' : V) (result : ℕ) : Type 0 where
   pub stop : Stop
   pub told : Told h say old new (host_line no_port_line fault ∷ [])
@@ -148,14 +158,14 @@ pub record IsRun {V : Type 0} (s : StoreGhosts V) (down was : Bool) (recovery : 
   pub started : start.state ≡ state_after down start.opened start.battery
   pub stopped : StopsAs s was store store' stop
 
--- a volume of that name was started and stopped so
-abbrev pub RunsAs : {V : Type 0} → StoreGhosts V → Bool → Bool → Recovery → V → V → List ℕ → Course → Type 0
-RunsAs s down was recovery store store' name (NoPost start fault stop) = (start.name ≡ name) × IsRun s down was recovery store store' start stop
-RunsAs s down was recovery store store' name (Ran start way did stop) = (start.name ≡ name) × IsRun s down was recovery store store' start stop
-RunsAs s down was recovery store store' name Usage = ⊥
-RunsAs s down was recovery store store' name (NoRig word fault) = ⊥
-RunsAs s down was recovery store store' name (NoUnit fault) = ⊥
-RunsAs s down was recovery store store' name (NoVolume fault) = ⊥
+-- a volume of that name and root was started and stopped so; MNT gives that root, and STATUS counts the puts from then on
+abbrev pub RunsAs : {V : Type 0} → StoreGhosts V → Bool → Bool → Recovery → V → V → List ℕ → FileId → Course → Type 0
+RunsAs s down was recovery store store' name root (NoPost start fault stop) = (start.name ≡ name) × IsRun s down was recovery store store' start stop
+RunsAs s down was recovery store store' name root (Ran start way did stop) = (start.name ≡ name) × IsRun s down was recovery store store' start stop × (did.desk ≡ new_desk root (s.snapshot_of store).puts)
+RunsAs s down was recovery store store' name root Usage = ⊥
+RunsAs s down was recovery store store' name root (NoRig word fault) = ⊥
+RunsAs s down was recovery store store' name root (NoUnit fault) = ⊥
+RunsAs s down was recovery store store' name root (NoVolume fault) = ⊥
 
 -- What a run over a store did, whose posts came back.
 pub record Served {S R L C P V : Type 0} (h : Ghosts S R L C P) (say : SayGhosts S) (l : LinkGhosts L) (c : ClockGhosts C) (s : StoreGhosts V) (turns : ℕ) (old new : S) (store store' : V) (course : Course) (result : ℕ) : Type 0 where
@@ -175,11 +185,11 @@ pub record Served {S R L C P V : Type 0} (h : Ghosts S R L C P) (say : SayGhosts
   pub host : result ≡ 66 → Rose (h.host_faults old) (h.host_faults new)
   pub later : h.host_faults old ≤ h.host_faults new
 
--- A run over an open volume of that name; `was` says whether it was hurt.
-pub record ServedOpen {S R L C P V : Type 0} (h : Ghosts S R L C P) (say : SayGhosts S) (l : LinkGhosts L) (c : ClockGhosts C) (s : StoreGhosts V) (options : Options) (recovery : Recovery) (name : List ℕ) (was : Bool) (old new : S) (store store' : V) (result : ℕ) : Type 0 where
+-- A run over an open volume of that name and root; `was` says whether it was hurt.
+pub record ServedOpen {S R L C P V : Type 0} (h : Ghosts S R L C P) (say : SayGhosts S) (l : LinkGhosts L) (c : ClockGhosts C) (s : StoreGhosts V) (options : Options) (recovery : Recovery) (name : List ℕ) (root : FileId) (was : Bool) (old new : S) (store store' : V) (result : ℕ) : Type 0 where
   pub course : Course
   pub served : Served h say l c s options.turns old new store store' course result
-  pub runs : RunsAs s options.down was recovery store store' name course
+  pub runs : RunsAs s options.down was recovery store store' name root course
 
 -- There is no volume that can be served on a store: the damage is that of the first test that fails; nothing has changed, or a device failed.
 pub record IsRefusedAs {V : Type 0} (s : StoreGhosts V) (store store' : V) (fault : RepairFault) : Type 0 where
@@ -197,7 +207,7 @@ pub record IsServedAs {V : Type 0} (s : StoreGhosts V) (down : Bool) (recovery :
 abbrev pub OpensAs : {V : Type 0} → StoreGhosts V → Bool → Recovery → V → V → Course → Type 0
 OpensAs s down recovery store store' (NoVolume fault) = IsRefusedAs s store store' fault
 OpensAs s down recovery store store' (NoPost start fault stop) = IsServedAs s down recovery store store' start stop
-OpensAs s down recovery store store' (Ran start way did stop) = IsServedAs s down recovery store store' start stop
+OpensAs s down recovery store store' (Ran start way did stop) = IsServedAs s down recovery store store' start stop × (s.tells → did.desk.root ≡ root_in (s.image store))
 OpensAs s down recovery store store' Usage = ⊥
 OpensAs s down recovery store store' (NoRig word fault) = ⊥
 OpensAs s down recovery store store' (NoUnit fault) = ⊥

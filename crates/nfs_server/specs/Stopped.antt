@@ -1,5 +1,5 @@
 -- What the stopping of a volume leaves (docs/FORMATS.md, free chain).
-use Rattle.std.specs.Prelude.{◌≡◌, ◌≤◌, ℕ, Bool, true, false, List, nat_lt, ◌||◌}
+use Rattle.std.specs.Prelude.{◌≡◌, ◌≤◌, Bool, true, false, List}
 use Rattle.stable.specs.Counts.{Rose}
 use Rattle.stable.specs.Store.{Image}
 use Rattle.stable.specs.declared.state.State.TheVariants.{Down}

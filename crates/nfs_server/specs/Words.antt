@@ -1,5 +1,5 @@
 -- The words of the command line (docs/CALLS.md, "Words").
-use Rattle.std.specs.Prelude.{ℕ, ◌+◌, ◌-◌, ◌*◌, Bool, true, false, not, ◌&&◌, List, [], ◌∷◌, length, Option, Some, None, nat_eq, nat_le, nat_lt, if◌then◌else◌, codes}
+use Rattle.std.specs.Prelude.{ℕ, Bool, false, ◌&&◌, List, [], ◌∷◌, Option, Some, None, nat_lt, if◌then◌else◌, codes}
 use Rattle.std.specs.Str.{bytes_eq}
 use Rattle.std.specs.Option.{option_map, option_and_then}
 use Rattle.run_lines.specs.Naming.{Named, named_by}

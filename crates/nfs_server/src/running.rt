@@ -1,7 +1,7 @@
 //! A run of the server, from its words to its status.
 ghost use Rattle.std.specs.Prelude.{◌≡◌, ◌<◌, ◌≤◌, ◌↔◌, None, map, string_bytes};
 ghost use Rattle.rig.specs.Hosts.{SameLoans};
-ghost use Rattle.volume.specs.Mounted.{store_of, name_of, is_hurt};
+ghost use Rattle.volume.specs.Mounted.{store_of, name_of, root_of, is_hurt};
 ghost use Rattle.volume.specs.Rests.{Rests};
 ghost use Rattle.nfs_worker.specs.Resting.{StaysAtRest};
 ghost use Rattle.nfs_server.specs.Asking.{options_read};
@@ -11,7 +11,7 @@ ghost use Rattle.nfs_server.specs.Words.{asked_by};
 use crate::starting::{Recovery, start, stop};
 use crate::telling::{USAGE, close, tell_start};
 use crate::words::{Options, read_words};
-use nfs_worker::{Cells, Ended, Numbers, ServerPass, work};
+use nfs_worker::{Cells, Ended, Numbers, ServerPass, open_cells, work};
 use presto_recover::{Opened, open};
 use rig::{Host, HostFault, Post, Rig};
 use run_lines::{
@@ -35,8 +35,9 @@ fn run_worker<H: Host, S: Tended>(
     requires out { 0 < H.posts_out host.old }
     requires few { turns ≤ 1000000000 }
     requires rest { Rests S.Stable cells.old.volume }
+    requires one { cells.old.desk.mounts.volumes ≡ 1 }
     ensures rest { StaysAtRest S.Stable cells.old.volume cells.new.volume }
-    ensures ran { RanPost H.Host.own H.Say H.L.Link H.C.Clock S.Stable host.old host.new (store_of cells.old.volume) (store_of cells.new.volume) post turns result.0 result.1 }
+    ensures ran { RanPost H.Host.own H.Say H.L.Link H.C.Clock S.Stable host.old host.new (store_of cells.old.volume) (store_of cells.new.volume) cells.old.desk post turns result.0 result.1 }
 {
     let mut post = post;
     let mut pass = ServerPass::new(0, second);
@@ -56,12 +57,13 @@ fn serve_post<H: Host, S: Tended>(
     requires out { 0 < H.posts_out host.old }
     requires few { turns ≤ 1000000000 }
     requires rest { Rests S.Stable cells.volume }
-    ensures served { ServedPost H.Host.own H.Say H.L.Link H.C.Clock S.Stable turns (is_hurt cells.volume) host.old host.new (store_of cells.volume) result.1 post result.0 }
+    requires one { cells.desk.mounts.volumes ≡ 1 }
+    ensures served { ServedPost H.Host.own H.Say H.L.Link H.C.Clock S.Stable turns (is_hurt cells.volume) host.old host.new (store_of cells.volume) result.1 cells.desk post result.0 }
 {
     let mut cells = cells;
     let (ended, numbers) = run_worker(host, &mut cells, post, second, turns);
     let now = host.now();
-    let Cells { alloc: _, volume } = cells;
+    let Cells { volume, .. } = cells;
     let (store, unwritten) = stop(volume, now);
     let status = close(host, store.snapshot(), unwritten, ended, numbers);
     (status, store)
@@ -89,14 +91,18 @@ fn serve_open<H: Host, S: Tended>(
 ) -> (u8, S)
     requires few { options.turns ≤ 1000000000 }
     requires rest { Rests S.Stable volume }
-    ensures served { ServedOpen H.Host.own H.Say H.L.Link H.C.Clock S.Stable (options_read options) recovery (name_of volume) (is_hurt volume) host.old host.new (store_of volume) result.1 result.0 }
+    ensures served { ServedOpen H.Host.own H.Say H.L.Link H.C.Clock S.Stable (options_read options) recovery (name_of volume) (root_of volume) (is_hurt volume) host.old host.new (store_of volume) result.1 result.0 }
 {
     let mut volume = volume;
     start(&mut volume, options.down);
     tell_start(host, &volume.name(), volume.snapshot().state, recovery);
+    let cells = match open_cells(alloc, volume) {
+        Ok(cells) => cells,
+        Err(volume) => return refuse_post(host, volume, HostFault::NoMemory),
+    };
     match host.post(PORT, 0) {
-        Err(fault) => refuse_post(host, volume, fault),
-        Ok(post) => serve_post(host, Cells { alloc, volume }, post, second, options.turns),
+        Err(fault) => refuse_post(host, cells.volume, fault),
+        Ok(post) => serve_post(host, cells, post, second, options.turns),
     }
 }
 

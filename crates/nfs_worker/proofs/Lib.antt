@@ -1,8 +1,9 @@
 pub mod Accounts
 pub mod Reactions
 pub mod Counts
+pub mod Desks
+pub mod Firsts
 pub mod Lists
-pub mod Meanings
 pub mod OneHold
 pub mod Resting
 pub mod Tendings

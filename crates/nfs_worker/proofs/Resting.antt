@@ -1,5 +1,5 @@
 -- A volume at rest, over one call after another.
-use Rattle.std.proofs.Common.{arith, ◌≡◌, ◌∙◌, ◌≤◌, ℕ, Bool, true, false, refl, sym, ap}
+use Rattle.std.proofs.Common.{arith, ◌≡◌, ◌∙◌, ◌≤◌, Bool, true, false, refl, sym, ap}
 use Rattle.stable.specs.Counts.{Rose, RoseBy}
 use Rattle.stable.specs.declared.store.Stable.{Ghosts}
 use Rattle.volume.specs.Mounted.{store_of, is_hurt, SameButStore}

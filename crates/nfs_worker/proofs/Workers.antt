@@ -6,8 +6,10 @@ use Rattle.files_model.specs.declared.address.Address.{Address}
 use Rattle.files_model.specs.History.{Event}
 use Rattle.rig.specs.Links.{Heard}
 use Rattle.rig.specs.Offers.LeavesOut.{none}
-use Rattle.nfs_worker.specs.Worker.{worker_at, Worker, Own, owned, Works, request_in, outside_in, requests_of, replies_of}
+use Rattle.nfs_worker.specs.Worker.{worker_at, Worker, Own, owned, Works, request_in, requests_of, replies_of}
 use Rattle.nfs_worker.specs.Worker.Mixes.{neither}
+use Rattle.nfs_worker.specs.declared.desk.Desk.{Desk}
+use Rattle.nfs_worker.proofs.Desks.{answered_none, answered_both}
 use Rattle.nfs_worker.proofs.Lists.{mixes_both, hears_both}
 use Rattle.rig.proofs.Offers.{leaves_both, offers_both, offers_nothing}
 
@@ -23,13 +25,13 @@ pub owned-append : (volume : ℕ) (xs ys : List Event) → owned volume (xs ++ y
 owned-append volume [] ys = refl
 owned-append volume (x ∷ xs) ys = ap (λ (own : List Own). record { volume = volume; event = x } ∷ own) (owned-append volume xs ys)
 
-pub works_both : (volumes number : ℕ) (a b c : Worker) (heard heard' : List Heard) (own own' : List Own) (rs rs' : List (Address × List ℕ))
-    → Works volumes number a b heard own rs → Works volumes number b c heard' own' rs' → Works volumes number a c (heard ++ heard') (own ++ own') (rs ++ rs')
-works_both volumes number a b c heard heard' own own' rs rs' p q = record {
+pub works_both : (volumes number : ℕ) {desk mid then : Desk} (a b c : Worker) (heard heard' : List Heard) (own own' : List Own) (rs rs' : List (Address × List ℕ))
+    → Works volumes number desk mid a b heard own rs → Works volumes number mid then b c heard' own' rs' → Works volumes number desk then a c (heard ++ heard') (own ++ own') (rs ++ rs')
+works_both volumes number {desk} {mid} {then} a b c heard heard' own own' rs rs' p q = record {
   taken = hears_both a.left b.left c.left heard heard' p.taken q.taken;
   asked = rw (flat_map-append requests_of own own', filter_map-append (request_in volumes) heard heard') (leaves_both _ _ _ _ p.asked q.asked);
   outside = p.outside ++ q.outside;
-  heard_outside = rw (filter_map-append (outside_in volumes) heard heard') (leaves_both _ _ _ _ p.heard_outside q.heard_outside);
+  answered = answered_both volumes desk mid then heard heard' p.outside q.outside p.answered q.answered;
   offered = p.offered ++ q.offered;
   mixed = rw (flat_map-append replies_of own own') (mixes_both _ _ _ _ _ _ p.mixed q.mixed);
   sends = offers_both p.offered q.offered rs rs' p.sends q.sends;
@@ -37,12 +39,12 @@ works_both volumes number a b c heard heard' own own' rs rs' p q = record {
 }
 
 -- nothing was heard and nothing done
-pub works_nothing : (volumes number : ℕ) (a : Worker) → Works volumes number a a [] [] []
-works_nothing volumes number a = record {
+pub works_nothing : (volumes number : ℕ) (desk : Desk) (a : Worker) → Works volumes number desk desk a a [] [] []
+works_nothing volumes number desk a = record {
   taken = refl;
   asked = none;
   outside = [];
-  heard_outside = none;
+  answered = answered_none volumes desk [];
   offered = [];
   mixed = neither;
   sends = offers_nothing refl (omega arith);

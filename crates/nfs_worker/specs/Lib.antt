@@ -1,5 +1,6 @@
 pub mod Account
 pub mod Answers
+pub mod Desk
 pub mod Resting
 pub mod Served
 pub mod Tending

@@ -6,7 +6,7 @@ use Rattle.stable.specs.Counts.{Rose}
 use Rattle.stable.specs.declared.store.Stable.{Ghosts}
 use Rattle.rig.specs.Links.{gains}
 use Rattle.rig.specs.declared.link.Link.{Ghosts as LinkGhosts}
-use Rattle.nfs_worker.specs.Account.{Hold, Grew}
+use Rattle.nfs_worker.specs.Account.{Grew}
 use Rattle.nfs_worker.specs.Worker.{worker_at, replies_of}
 use Rattle.nfs_worker.specs.declared.releasing.Ready.{Ready}
 use Rattle.nfs_worker.specs.declared.releasing.Released.{Released}

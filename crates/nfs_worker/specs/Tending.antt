@@ -1,6 +1,6 @@
 -- What turns do for the store of a volume, beside the calls on it: its battery is polled, and its dirty sectors are tried (docs/CALLS.md, "A turn").
-use Rattle.std.specs.Prelude.{◌≡◌, ◌≢◌, ◌⊎◌, ◌≤◌, ◌-◌, ℕ, Bool, true, false, if◌then◌else◌, not, nat_eq, Option, Some}
-use Rattle.stable.specs.Counts.{RoseBy, one_more}
+use Rattle.std.specs.Prelude.{◌≡◌, ◌≤◌, ℕ, Bool, false, if◌then◌else◌, not, nat_eq}
+use Rattle.stable.specs.Counts.{one_more}
 use Rattle.stable.specs.declared.snapshot.Snapshot.{Snapshot}
 use Rattle.stable.specs.declared.state.State.{State}
 use Rattle.stable.specs.declared.state.State.TheVariants.{Up, Down, Error}

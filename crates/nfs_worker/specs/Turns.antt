@@ -1,5 +1,5 @@
 -- What the turns of a worker say.
-use Rattle.std.specs.Prelude.{◌≡◌, ◌≢◌, ℕ, ◌+◌, ◌-◌, ◌≤◌, List, [], ◌∷◌, ◌++◌, length, Some}
+use Rattle.std.specs.Prelude.{◌≡◌, ◌≢◌, ℕ, Bool, ◌+◌, ◌-◌, ◌≤◌, List, [], ◌∷◌, ◌++◌, length, Some}
 use Rattle.std.specs.List.{flat_map, filter_map, AllByRecursion}
 use Rattle.files_model.specs.declared.address.Address.{Address}
 use Rattle.files_model.specs.History.{time_of}
@@ -12,8 +12,14 @@ use Rattle.rig.specs.declared.link.Event.{Event}
 use Rattle.rig.specs.declared.link.Event.TheVariants as event
 use Rattle.rig.specs.declared.link.Link.{Ghosts as LinkGhosts}
 use Rattle.rig.specs.Links.Heard.{Datagram, Idle, Closed, Failed}
-use Rattle.nfs2_wire.specs.Meaning.{meaning}
-use Rattle.nfs2_wire.specs.Meaning.Meaning.{NoMeaning}
+use Rattle.rig.specs.Offers.{LeavesOut}
+use Rattle.stable.specs.declared.snapshot.Snapshot.{Snapshot}
+use Rattle.datagrams.specs.declared.datagram.Datagram.{Datagram as Meaning}
+use Rattle.datagrams.specs.declared.datagram.Datagram.TheVariants.{NoMeaning, Outside, Asks, Mount, Command, Status, Halt}
+use Rattle.datagrams.specs.Meaning.{meaning}
+use Rattle.nfs_worker.specs.Desk.{Change, Tells}
+use Rattle.nfs_worker.specs.Tending.{IsTended, IsUntended}
+use Rattle.nfs_worker.specs.declared.desk.Desk.{Desk}
 use Rattle.nfs_worker.specs.Account.{Hold, Grew, history}
 use Rattle.nfs_worker.specs.Worker.{Own, owned, request_in, requests_of, worker_of, Works}
 use Rattle.nfs_worker.specs.declared.pass.Numbers.{Numbers}
@@ -41,9 +47,36 @@ IsDatagram Idle = ⊥
 IsDatagram Closed = ⊥
 IsDatagram Failed = ⊥
 
+-- what tells the server to end
+abbrev pub IsHalt : Meaning → Type 0
+IsHalt (Halt xid) = Unit {0}
+IsHalt NoMeaning = ⊥
+IsHalt (Outside answer) = ⊥
+IsHalt (Asks xid volume cred call) = ⊥
+IsHalt (Mount rpc) = ⊥
+IsHalt (Command xid volume asked) = ⊥
+IsHalt (Status xid volume) = ⊥
+
+-- what is answered, and doesn't end the server
+abbrev pub IsAnswered : Meaning → Type 0
+IsAnswered NoMeaning = ⊥
+IsAnswered (Halt xid) = ⊥
+IsAnswered (Outside answer) = Unit {0}
+IsAnswered (Asks xid volume cred call) = Unit {0}
+IsAnswered (Mount rpc) = Unit {0}
+IsAnswered (Command xid volume asked) = Unit {0}
+IsAnswered (Status xid volume) = Unit {0}
+
+-- a datagram that tells the server to end, by user 0
+abbrev pub MeansHalt : ℕ → Heard → Type 0
+MeansHalt volumes (Datagram from bytes) = IsHalt (meaning bytes volumes)
+MeansHalt volumes Idle = ⊥
+MeansHalt volumes Closed = ⊥
+MeansHalt volumes Failed = ⊥
+
 -- a datagram that means a call on an open volume, or is answered outside any history
 abbrev pub MeansSomething : ℕ → Heard → Type 0
-MeansSomething volumes (Datagram from bytes) = meaning bytes volumes ≢ NoMeaning
+MeansSomething volumes (Datagram from bytes) = IsAnswered (meaning bytes volumes)
 MeansSomething volumes Idle = ⊥
 MeansSomething volumes Closed = ⊥
 MeansSomething volumes Failed = ⊥
@@ -63,9 +96,29 @@ Says volumes (turn.Dropped cause.NoMeaning) heard own replies before now = Means
 Says volumes (turn.Dropped cause.NoMemory) heard own replies before now = IsDatagram heard × (own ≡ [])
 Says volumes (turn.Dropped cause.SendFailed) heard own replies before now = Reacts volumes heard own × Rose before now × (replies ≡ [])
 Says volumes (turn.Answered n) heard own replies before now = Reacts volumes heard own × (length replies ≡ n) × (1 ≤ n)
--- no call is left to another worker, and none halts the server
+-- the reply may be unsent
+Says volumes turn.Halted heard own replies before now = MeansHalt volumes heard × (own ≡ [])
+-- no call is left to another worker
 Says volumes turn.Left heard own replies before now = ⊥
-Says volumes turn.Halted heard own replies before now = ⊥
+
+-- What a datagram of this meaning did to a volume's store besides the puts of a call, and what was sent of it, if anything. A command and a status show the snapshot afterwards.
+abbrev pub DoesBy : Desk → Address → Meaning → List (Address × List ℕ) → Change → Desk → Type 0
+DoesBy desk from NoMeaning replies change then = (then ≡ desk) × IsUntended change.old change.new
+DoesBy desk from (Asks xid volume cred call) replies change then = (then ≡ desk) × IsUntended change.old change.new
+DoesBy desk from means replies change then = (reply : List ℕ) × Tells desk means change reply then × LeavesOut replies ((from, reply) ∷ [])
+
+abbrev pub Does : ℕ → Desk → Heard → List (Address × List ℕ) → Change → Desk → Type 0
+Does volumes desk (Datagram from bytes) replies change then = DoesBy desk from (meaning bytes volumes) replies change then
+Does volumes desk Idle replies change then = ⊥
+Does volumes desk Closed replies change then = ⊥
+Does volumes desk Failed replies change then = ⊥
+
+-- what each answer of a turn says of that; where nothing was answered nothing was done
+abbrev pub Obeys : Turn → ℕ → Desk → Heard → List (Address × List ℕ) → Change → Desk → Type 0
+Obeys (turn.Answered n) volumes desk heard replies change then = Does volumes desk heard replies change then
+Obeys (turn.Dropped cause.SendFailed) volumes desk heard replies change then = Does volumes desk heard replies change then
+Obeys turn.Halted volumes desk heard replies change then = Does volumes desk heard replies change then
+Obeys _ volumes desk heard replies change then = (then ≡ desk) × IsUntended change.old change.new
 
 -- how many of these are datagrams
 abbrev pub datagrams : List Heard → ℕ
@@ -97,17 +150,27 @@ EventTurn event.Idle result = result ≡ turn.Idle
 EventTurn event.Closed result = result ≡ turn.Closed
 EventTurn event.Failed result = result ≡ turn.Dropped cause.ReceiveFailed
 
--- The account of a turn: what it heard, what the volume and the link did, what its answer says, and what the pass counted. Its events have the pass's second.
-pub record Turned {S L : Type 0} (s : Ghosts S) (l : LinkGhosts L) (store store' : S) (link link' : L) (pass pass' : ServerPass) (result : Turn) : Type 0 where
+-- The account of a turn from its event on: what it heard, what the volume and the link did, what its answer says, and what the pass counted. Its events have the pass's second. As the event was taken the store had
+-- counted so many faults and showed this.
+pub record Turned {S L : Type 0} (s : Ghosts S) (l : LinkGhosts L) (faults : ℕ) (shown : Snapshot) (store store' : S) (desk then : Desk) (link link' : L) (pass pass' : ServerPass) (result : Turn) : Type 0 where
   pub heard : Heard
   pub holds : List Hold
   pub replies : List (Address × List ℕ)
   pub grows : Grew s store store' holds
-  pub works : Works 1 pass.number (worker_of l link) (worker_of l link') (heard ∷ []) (owned 0 (history holds)) replies
+  pub works : Works 1 pass.number desk then (worker_of l link) (worker_of l link') (heard ∷ []) (owned 0 (history holds)) replies
   pub says : Says 1 result heard (owned 0 (history holds)) replies (l.faults link) (l.faults link')
+  pub obeys : Obeys result 1 desk heard replies (record { faults = faults; faults_after = s.faults store'; old = shown; new = s.snapshot_of store' }) then
   pub counts : Counts pass.numbers pass'.numbers (heard ∷ []) replies
   pub timed : AllByRecursion (λ event. time_of event ≡ pass'.second) (history holds)
   pub number : pass'.number ≡ pass.number
+
+-- A turn: its store was tended, the battery polled or not, and then an event was taken.
+pub record TookTurn {S L : Type 0} (s : Ghosts S) (l : LinkGhosts L) (polled : Bool) (store store' : S) (desk then : Desk) (link link' : L) (pass pass' : ServerPass) (result : Turn) : Type 0 where
+  pub faults : ℕ
+  pub shown : Snapshot
+  pub later : s.faults store ≤ faults
+  pub tended : IsTended polled (s.snapshot_of store) shown
+  pub turned : Turned s l faults shown store store' desk then link link' pass pass' result
 
 -- The clock was asked once, and its answer is this second.
 pub record IsAsked {C : Type 0} (c : ClockGhosts C) (clock clock' : C) (second : ℕ) : Type 0 where
@@ -133,32 +196,43 @@ pub record IsClosed (turns : ℕ) (heard : List Heard) : Type 0 where
   pub open_before : IsOpen before
   pub within : length heard ≤ turns
 
--- what an end says of what was heard; no worker ends by a halt
+-- the last event is a datagram that tells the server to end, and none before closed the link
+pub record IsHalted (turns : ℕ) (heard : List Heard) : Type 0 where
+  pub before : List Heard
+  pub halt : Heard
+  pub last : heard ≡ before ++ halt ∷ []
+  pub means : MeansHalt 1 halt
+  pub open_before : IsOpen before
+  pub within : length heard ≤ turns
+
+-- what an end says of what was heard
 abbrev pub EndsBy : Ended → ℕ → List Heard → Type 0
 EndsBy ended.Closed turns heard = IsClosed turns heard
 EndsBy ended.Spent turns heard = IsSpent turns heard
-EndsBy ended.Halted turns heard = ⊥
+EndsBy ended.Halted turns heard = IsHalted turns heard
 
 -- Turns were taken, one after the other, to an end. The battery was polled as often as the clock's second changed, but for its first change, which may be one from the second before.
-pub record Worked {S L C : Type 0} (s : Ghosts S) (l : LinkGhosts L) (c : ClockGhosts C) (store store' : S) (link link' : L) (clock clock' : C) (pass pass' : ServerPass) (ended : Ended) (turns : ℕ) : Type 0 where
+pub record Worked {S L C : Type 0} (s : Ghosts S) (l : LinkGhosts L) (c : ClockGhosts C) (store store' : S) (desk then : Desk) (link link' : L) (clock clock' : C) (pass pass' : ServerPass) (ended : Ended) (turns : ℕ) : Type 0 where
   pub heard : List Heard
   pub holds : List Hold
   pub replies : List (Address × List ℕ)
   pub grows : Grew s store store' holds
-  pub works : Works 1 pass.number (worker_of l link) (worker_of l link') heard (owned 0 (history holds)) replies
+  pub works : Works 1 pass.number desk then (worker_of l link) (worker_of l link') heard (owned 0 (history holds)) replies
   pub ends : EndsBy ended turns heard
   pub counts : Counts pass.numbers pass'.numbers heard replies
   pub number : pass'.number ≡ pass.number
   pub polled : RoseBy (c.changes clock' - c.changes clock - 1) (s.snapshot_of store).polls (s.snapshot_of store').polls
 
 -- So many turns were taken, and none closed the link. From the first on the pass has the clock's last answer.
-pub record TurnsTaken {S L C : Type 0} (s : Ghosts S) (l : LinkGhosts L) (c : ClockGhosts C) (store store' : S) (link link' : L) (clock clock' : C) (pass pass' : ServerPass) (turns : ℕ) : Type 0 where
-  pub worked : Worked s l c store store' link link' clock clock' pass pass' ended.Spent turns
+pub record TurnsTaken {S L C : Type 0} (s : Ghosts S) (l : LinkGhosts L) (c : ClockGhosts C) (store store' : S) (desk then : Desk) (link link' : L) (clock clock' : C) (pass pass' : ServerPass) (turns : ℕ) : Type 0 where
+  pub worked : Worked s l c store store' desk then link link' clock clock' pass pass' ended.Spent turns
   pub unasked : turns ≡ 0 → c.changes clock' ≡ c.changes clock
   pub last : 1 ≤ turns → c.last clock' ≡ Some pass'.second
 
--- what one worker did: what it heard, the events of its holds, and what its link took
+-- what one worker did: what it heard, the events of its holds, what its link took, and the desk before and after
 pub record Did : Type 0 where
+  pub desk : Desk
+  pub then : Desk
   pub heard : List Heard
   pub own : List Own
   pub replies : List (Address × List ℕ)

@@ -1,16 +1,18 @@
 -- The account of a worker: what it took from its link, the events of its holds, and what the link took from it.
-use Rattle.std.specs.Prelude.{◌≡◌, ℕ, ◌-◌, List, [], ◌∷◌, ◌++◌, length, map, Option, Some, None}
+use Rattle.std.specs.Prelude.{◌≡◌, ℕ, List, [], ◌∷◌, map, Option, Some, None}
 use Rattle.std.specs.List.{flat_map, filter_map, AllByRecursion}
-use Rattle.std.specs.Option.{option_map}
 use Rattle.files_model.specs.declared.address.Address.{Address}
 use Rattle.files_model.specs.History.{Event, Item, items_of, answers_of}
 use Rattle.files_model.specs.History.Event.{Done, Failed as Failing, Cut}
 use Rattle.rig.specs.Links.{Heard, Takes}
 use Rattle.rig.specs.declared.link.Link.{Ghosts}
 use Rattle.rig.specs.Links.Heard.{Datagram, Idle, Closed, Failed}
-use Rattle.nfs2_wire.specs.Meaning.{Meaning, meaning}
-use Rattle.nfs2_wire.specs.Meaning.Meaning.{NoMeaning, Outside, Asks}
+use Rattle.datagrams.specs.declared.datagram.Datagram.{Datagram as Meaning}
+use Rattle.datagrams.specs.declared.datagram.Datagram.TheVariants.{NoMeaning, Outside, Asks, Mount, Command, Status, Halt}
+use Rattle.datagrams.specs.Meaning.{meaning}
 use Rattle.nfs2_wire.specs.Replies.{bytes_of}
+use Rattle.nfs_worker.specs.Desk.{Answered}
+use Rattle.nfs_worker.specs.declared.desk.Desk.{Desk}
 use Rattle.rig.specs.Offers.{LeavesOut, Offers}
 
 -- what is seen of a worker's link
@@ -44,15 +46,13 @@ abbrev pub Request : Type 0
 Request = ℕ × Item
 
 abbrev pub request_of : Address → Meaning → Option Request
+request_of from (Asks xid volume cred call) = Some (volume, record { xid = xid; from = from; call = call; cred = cred })
 request_of from NoMeaning = None
 request_of from (Outside answer) = None
-request_of from (Asks xid volume cred call) = Some (volume, record { xid = xid; from = from; call = call; cred = cred })
-
--- the answer outside any history, and to whom
-abbrev pub outside_of : Address → Meaning → Option (Address × List ℕ)
-outside_of from NoMeaning = None
-outside_of from (Outside answer) = Some (from, answer)
-outside_of from (Asks xid volume cred call) = None
+request_of from (Mount rpc) = None
+request_of from (Command xid volume asked) = None
+request_of from (Status xid volume) = None
+request_of from (Halt xid) = None
 
 -- the call that was heard, where so many volumes are open
 abbrev pub request_in : ℕ → Heard → Option Request
@@ -60,13 +60,6 @@ request_in volumes (Datagram from bytes) = request_of from (meaning bytes volume
 request_in volumes Idle = None
 request_in volumes Closed = None
 request_in volumes Failed = None
-
--- the answer outside any history to what was heard
-abbrev pub outside_in : ℕ → Heard → Option (Address × List ℕ)
-outside_in volumes (Datagram from bytes) = outside_of from (meaning bytes volumes)
-outside_in volumes Idle = None
-outside_in volumes Closed = None
-outside_in volumes Failed = None
 
 -- the calls of an own event
 abbrev pub requests_of : Own → List Request
@@ -95,14 +88,14 @@ Hears left (heard ∷ more) now = (mid : Option (List Heard)) × Takes left hear
 abbrev pub Sends : Worker → Worker → List (Address × List ℕ) → List (Address × List ℕ) → Type 0
 Sends old new offered replies = Offers old.sent new.sent old.faults new.faults offered replies
 
--- A worker has heard this, its own events are these, and its link took these replies.
-pub record Works (volumes number : ℕ) (old new : Worker) (heard : List Heard) (own : List Own) (replies : List (Address × List ℕ)) : Type 0 where
+-- A worker has heard this, its own events are these, and its link took these replies. Its answers outside any history are those of one desk, which is the second one then.
+pub record Works (volumes number : ℕ) (desk then : Desk) (old new : Worker) (heard : List Heard) (own : List Own) (replies : List (Address × List ℕ)) : Type 0 where
   pub taken : Hears old.left heard new.left
   -- each own call is that of a datagram heard, in order, and each at most once
   pub asked : LeavesOut (flat_map requests_of own) (filter_map (request_in volumes) heard)
   -- the answers outside any history are to datagrams heard, in order, and each at most once
   pub outside : List (Address × List ℕ)
-  pub heard_outside : LeavesOut outside (filter_map (outside_in volumes) heard)
+  pub answered : Answered volumes desk heard outside then
   -- what was offered are those and the replies of own events
   pub offered : List (Address × List ℕ)
   pub mixed : Mixes (flat_map replies_of own) outside offered

@@ -3,6 +3,7 @@
 
 mod answering;
 mod cells;
+mod desk;
 mod pass;
 mod releasing;
 mod serving;
@@ -11,7 +12,8 @@ mod tending;
 mod turning;
 mod working;
 
-pub use cells::Cells;
+pub use cells::{Cells, open_cells};
+pub use desk::Desk;
 pub use pass::{Numbers, ServerPass};
 pub use releasing::{Ready, Released, release};
 pub use serving::{Served, serve_call};

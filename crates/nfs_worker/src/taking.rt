@@ -1,8 +1,8 @@
 //! One turn of a worker.
 ghost use Rattle.std.specs.Prelude.{◌≡◌, ◌+◌, ◌<◌, ◌^◌};
-ghost use Rattle.nfs_worker.specs.Tending.{IsTended, IsUntended, is_new};
-ghost use Rattle.nfs_worker.specs.Answers.{Replied};
-ghost use Rattle.nfs_worker.specs.Turns.{Turned, IsAsked, answers_in, turn_of, EventTurn};
+ghost use Rattle.nfs_worker.specs.Tending.{is_new};
+ghost use Rattle.nfs_worker.specs.Answers.{Replied, halted_by};
+ghost use Rattle.nfs_worker.specs.Turns.{Turned, TookTurn, IsAsked, answers_in, turn_of, EventTurn};
 ghost use Rattle.nfs_worker.specs.Resting.{StaysAtRest};
 ghost use Rattle.volume.specs.Mounted.{store_of};
 ghost use Rattle.volume.specs.Rests.{Rests};
@@ -33,6 +33,8 @@ fn reply<L: Link>(link: &mut L, from: Address, reaction: Reaction) -> Turn
     match reaction {
         Reaction::Ready(ready) => turn_of(release(link, ready)),
         Reaction::Outside(reply) => turn_of(send(link, &from, reply.bytes())),
+        Reaction::Mounted(reply) => turn_of(send(link, &from, reply.bytes())),
+        Reaction::Halt(reply) => turn_of(send(link, &from, reply.bytes())),
         Reaction::Dropped(cause) => Turn::Dropped(cause),
     }
 }
@@ -60,13 +62,20 @@ fn quiet(event: Event) -> Turn
     }
 }
 
+// The turn, where it ends the server or not.
+fn halted_by(halts: bool, turn: Turn) -> Turn
+    ensures { result ≡ halted_by halts turn }
+{
+    if halts { Turn::Halted } else { turn }
+}
+
 // Takes one event, and answers it where it is a datagram that means something, at the pass's second.
 fn take<S: Tended, L: Link>(cells: &mut Cells<S>, link: &mut L, pass: &mut ServerPass) -> Turn
     requires few { pass.old.numbers.received < 2 ^ 48 }
     requires rest { Rests S.Stable cells.old.volume }
+    requires one { cells.old.desk.mounts.volumes ≡ 1 }
     ensures rest { StaysAtRest S.Stable cells.old.volume cells.new.volume }
-    ensures turned { Turned S.Stable L.Link (store_of cells.old.volume) (store_of cells.new.volume) link.old link.new pass.old pass.new result }
-    ensures untended { IsUntended (S.snapshot_of (store_of cells.old.volume)) (S.snapshot_of (store_of cells.new.volume)) }
+    ensures turned { let old = store_of cells.old.volume in Turned S.Stable L.Link (S.faults old) (S.snapshot_of old) old (store_of cells.new.volume) cells.old.desk cells.new.desk link.old link.new pass.old pass.new result }
     ensures second { pass.new.second ≡ pass.old.second }
 {
     let event = link.recv(&mut pass.packet);
@@ -74,9 +83,10 @@ fn take<S: Tended, L: Link>(cells: &mut Cells<S>, link: &mut L, pass: &mut Serve
         return quiet(event);
     };
     let reaction = answer(cells, pass.number, pass.second, from, pass.packet.bytes());
+    let halts = reaction.is_halting();
     let turn = reply(link, from, reaction);
     pass.numbers = counted(pass.numbers, turn);
-    turn
+    halted_by(halts, turn)
 }
 
 /// Takes one turn: asks the clock, polls the battery where the second is a new one, tries a dirty sector where the store is in error, and then takes one
@@ -88,10 +98,10 @@ pub fn turn<S: Tended, L: Link, C: Clock, P: Pauser>(
 ) -> Turn
     requires few { pass.old.numbers.received < 2 ^ 48 }
     requires rest { Rests S.Stable cells.old.volume }
+    requires one { cells.old.desk.mounts.volumes ≡ 1 }
     ensures rest { StaysAtRest S.Stable cells.old.volume cells.new.volume }
-    ensures turned { Turned S.Stable L.Link (store_of cells.old.volume) (store_of cells.new.volume) post.old.link post.new.link pass.old pass.new result }
+    ensures took { TookTurn S.Stable L.Link (is_new pass.old.second pass.new.second) (store_of cells.old.volume) (store_of cells.new.volume) cells.old.desk cells.new.desk post.old.link post.new.link pass.old pass.new result }
     ensures asked { IsAsked C.Clock post.old.clock post.new.clock pass.new.second }
-    ensures tended { IsTended (is_new pass.old.second pass.new.second) (S.snapshot_of (store_of cells.old.volume)) (S.snapshot_of (store_of cells.new.volume)) }
 {
     let second = post.clock.now();
     tend(&mut cells.volume, second != pass.second);

@@ -10,4 +10,4 @@ mod Making
 mod FreshSteps
 mod Outside
 mod Puts
-mod Fitting
+pub mod Fitting

@@ -1,5 +1,6 @@
 -- A sector clipped and spliced, as slices do it.
 use Rattle.std.proofs.Common.{◌≡◌, ℕ, ◌+◌, ◌-◌, ◌*◌, ◌<◌, ◌≤◌, min, List, [], ◌++◌, length, take, drop, replicate, sym, ap, ◌∙◌, arith, ⊎_elim, append-nil, append_assoc, take_all, drop-drop, drop_of_length-le, length-take, length-drop}
+use Rattle.std.proofs.Math.Nat.{add-sub_cancel_left}
 use Rattle.std.proofs.lemmas.Bool.{cases_lt}
 use Rattle.std.proofs.lemmas.List.{drop-replicate, length-replicate}
 use Rattle.files_model.specs.Files.{clipped}
@@ -25,17 +26,35 @@ zero_tail kept = ap (take (512 - kept)) (drop-replicate kept 512 0) ∙ take_all
 nothing_past : (kept : ℕ) (old : List ℕ) → length old ≡ 512 → drop (512 - kept) (drop kept old) ≡ []
 nothing_past kept old long = drop-drop (512 - kept) kept old ∙ drop_of_length-le old (omega arith)
 
+-- what is left of a sector
+room : (start before : ℕ) → before ≡ min start 512 → 512 - before ≡ 512 - start
+room start before b = omega arith
+
 -- zeros from the size on
 pub clip-is : (size index kept : ℕ) (old : List ℕ) → length old ≡ 512 → kept ≡ min (size - 512 * index) 512
     → take kept old ++ (take (512 - kept) (drop kept (replicate 512 0)) ++ drop (512 - kept) (drop kept old)) ≡ clipped size index old
 unfolding clipped
 clip-is size index kept old long is =
-    (λ z. take_within kept (size - 512 * index) old (omega arith) z ++ (zero_tail kept z ++ nothing_past kept old long z))
+    (λ z. take_within kept (size - 512 * index) old (is ∙ ap (min (size - 512 * index)) (sym long)) z ++ (zero_tail kept z ++ nothing_past kept old long z))
     ∙ ap (λ xs. take (size - 512 * index) old ++ xs) (append-nil (replicate (512 - kept) 0))
     ∙ ap (λ m. take (size - 512 * index) old ++ replicate m 0) rest
   where
     rest : 512 - kept ≡ 512 - (size - 512 * index)
-    rest = omega arith
+    rest = room (size - 512 * index) kept is
+
+-- how many bytes fall into the sector, where it takes `room` and `rest` are left
+counted : (skipped count room rest : ℕ) → count ≡ min rest room → skipped + count - skipped ≡ min room rest
+counted skipped count room rest c = omega arith
+
+-- where they end
+ended : (start before count : ℕ) → before ≡ min start 512 → count ≤ 512 - before → before + (before + count - before) ≡ min (start + count) 512
+ended start before count b le = omega arith
+
+left_over : (from skipped size : ℕ) → skipped ≡ min from size → size - skipped ≡ size - from
+left_over from skipped size s = omega arith
+
+fits : (count a b : ℕ) → count ≡ min a b → count ≤ b
+fits count a b c = omega arith
 
 -- the bytes that fall into the sector
 pub splice-is : (offset : ℕ) (bytes : List ℕ) (index before skipped count : ℕ) (old : List ℕ) → length old ≡ 512
@@ -47,10 +66,13 @@ splice-is offset bytes index before skipped count old long b s c =
     let from : ℕ = 512 * index - offset in
     let rest : List ℕ = drop from bytes in
     let here : List ℕ = take (512 - start) rest in
-    let size : length rest ≡ length bytes - from = length-drop from bytes in
-    let size' : length here ≡ min (512 - start) (length rest) = length-take (512 - start) rest in
-    let front : take before old ≡ take start old = take_within before start old (omega arith) in
+    let size : length bytes - skipped ≡ length rest = left_over from skipped (length bytes) s ∙ sym (length-drop from bytes) in
+    let many : count ≡ min (length rest) (512 - start) = c ∙ (λ z. min (size z) (room start before b z)) in
+    let taken : skipped + count - skipped ≡ min (512 - start) (length rest) = counted skipped count (512 - start) (length rest) many in
+    let size' : count ≡ length here = sym (add-sub_cancel_left skipped count) ∙ taken ∙ sym (length-take (512 - start) rest) in
+    let front : take before old ≡ take start old = take_within before start old (b ∙ ap (min start) (sym long)) in
     let same : drop skipped bytes ≡ rest = drop_within skipped from bytes s in
-    let middle : take (skipped + count - skipped) (drop skipped bytes) ≡ here = ap (take (skipped + count - skipped)) same ∙ take_within (skipped + count - skipped) (512 - start) rest (omega arith) in
-    let back : drop (before + count - before) (drop before old) ≡ drop (start + length here) old = drop-drop (before + count - before) before old ∙ drop_within (before + (before + count - before)) (start + length here) old (omega arith) in
+    let middle : take (skipped + count - skipped) (drop skipped bytes) ≡ here = ap (take (skipped + count - skipped)) same ∙ take_within (skipped + count - skipped) (512 - start) rest taken in
+    let end : before + (before + count - before) ≡ min (start + length here) (length old) = ended start before count b (fits count (length bytes - skipped) (512 - before) c) ∙ (λ z. min (start + size' z) (sym long z)) in
+    let back : drop (before + count - before) (drop before old) ≡ drop (start + length here) old = drop-drop (before + count - before) before old ∙ drop_within (before + (before + count - before)) (start + length here) old end in
     (λ z. front z ++ (middle z ++ back z)) ∙ sym (append_assoc (take start old) here (drop (start + length here) old))

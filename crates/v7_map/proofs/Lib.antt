@@ -7,14 +7,10 @@ pub mod Used
 pub mod AnyFrame
 pub mod Nodes
 pub mod Writes
-pub mod DataPuts
 pub mod Bodies
 pub mod Prefixes
 pub mod Puts
 pub mod Ranges
-pub mod InodePuts
-pub mod Accepted
-pub mod WriteInside
 pub mod Standing
 pub mod Sectors
 pub mod SectorOf
@@ -29,7 +25,6 @@ pub mod PlaceIndex
 pub mod Undamaged
 pub mod Weakness
 pub mod Children
-pub mod WriteAnswers
 pub mod Contents
 pub mod Answers
 pub mod Whole

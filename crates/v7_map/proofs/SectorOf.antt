@@ -1,18 +1,13 @@
 -- Where the sectors of a body stand.
-use Rattle.std.proofs.Common.{◌≡◌, ◌≢◌, ℕ, zero, suc, ◌+◌, ◌-◌, ◌*◌, ◌/◌, ◌<◌, ◌≤◌, min, Bool, true, false, cond, not, ◌&&◌, ◌==◌, [], get_or, length, refl, sym, ap, subst, ◌∙◌, arith, ⊎_elim, ltb, eq-eqb}
+use Rattle.std.proofs.Common.{◌≡◌, ◌≢◌, ℕ, ◌-◌, ◌*◌, ◌<◌, ◌≤◌, min, Bool, true, false, cond, not, ◌==◌, get_or, length, refl, sym, ap, subst, ◌∙◌, arith, ⊎_elim, ltb}
 use Rattle.std.proofs.lemmas.Bool.{cases_lt, cases_eq, lt-ltb, le-ltb, ne_eqb}
-use Rattle.std.proofs.lemmas.List.Folds.{list_all_at}
-use Rattle.std.proofs.lemmas.List.FromFn.{get_or-range_with_len, length-range_with_len}
-use Rattle.std.specs.List.{range_with_len, list_all}
 use Rattle.stable.specs.Store.{Image}
 use Rattle.v7_layout.specs.declared.inode.Inode.{Inode}
 use Rattle.v7_layout.specs.Numbers.{field}
-use Rattle.files_model.specs.Files.{sectors_of}
-use Rattle.files_model.specs.Step.{touched}
 use Rattle.v7_map.specs.Image.{sector_at, inode_at}
 use Rattle.v7_map.specs.Frame.{Place, Body, Single, head_of, place_of, address_of, frame, listed}
 use Rattle.v7_map.specs.Weak.{IsWeak}
-use Rattle.v7_map.specs.Stored.{address_within, sector_in, limited, has_touched}
+use Rattle.v7_map.specs.Stored.{address_within, sector_in, limited}
 use Rattle.v7_map.proofs.Ranges.{address-inside}
 
 -- none, whatever a test says
@@ -32,6 +27,10 @@ within-below sectors a some = ⊎_elim
     (λ (lt : a < sectors). subst (λ z. z < sectors) (sym (within-stays sectors a lt)) lt)
     (λ (ge : sectors ≤ a). absurd (some (λ z. cond (le-ltb a sectors ge z) a 0)))
     (cases_lt a sectors)
+
+-- what was found of an address stands in the store
+pub within-found : {sectors count found : ℕ} (a : ℕ) → found ≡ address_within sectors a → sectors ≡ count → found ≢ 0 → found < count
+within-found {sectors} {count} {found} a is same some = subst (λ n. found < n) same (subst (λ n. n < sectors) (sym is) (within-below sectors a (λ none. some (is ∙ none))))
 
 -- what stands in a block of addresses
 pub listed-some : (image : Image) (block n : ℕ) → block ≢ 0 → listed image block n ≡ field (sector_at image block) (4 * n) 4
@@ -96,39 +95,3 @@ module _ (image : Image) (weak : IsWeak (frame image)) (i : ℕ) (used : not ((i
       let within = (weak.good i used).length in
       let size : min (inode_at image i).size 70656 ≡ (inode_at image i).size = omega arith in
       λ z. record (inode_at image i) { size = size z }
-
--- ---- touched sectors
-
-pub touched-some : (offset count : ℕ) → count ≢ 0 → touched offset count ≡ range_with_len (offset / 512) (sectors_of (offset + count) - offset / 512)
-unfolding touched
-touched-some offset count some z = cond (ne_eqb count 0 some z) [] (range_with_len (offset / 512) (sectors_of (offset + count) - offset / 512))
-
-pub touched-none : (offset count : ℕ) → count ≡ 0 → touched offset count ≡ []
-unfolding touched
-touched-none offset count none z = cond (eq-eqb count 0 none z) [] (range_with_len (offset / 512) (sectors_of (offset + count) - offset / 512))
-
-pub all-range : (p : ℕ → Bool) (a m : ℕ) → ((k : ℕ) → a ≤ k → k < a + m → p k ≡ true) → list_all p (range_with_len a m) ≡ true
-all-range p a zero h = refl
-all-range p a (suc m) h = (λ z. h a (omega arith) (omega arith) z && list_all p (range_with_len (a + 1) m)) ∙ all-range p (a + 1) m (λ k low high. h k (omega arith) (omega arith))
-
-module _ (image : Image) (n : Inode) (offset count : ℕ) where
-  -- one of them is missing
-  pub touched-missing : (k : ℕ) → count ≢ 0 → offset / 512 ≤ k → k < sectors_of (offset + count) → sector_in image n k ≡ 0 → has_touched image n offset count ≡ false
-  unfolding has_touched
-  touched-missing k some low high none =
-      let first : ℕ = offset / 512 in
-      let many : ℕ = sectors_of (offset + count) - first in
-      let there : k - first < many = omega arith in
-      let is : get_or (range_with_len first many) (k - first) 0 ≡ k = get_or-range_with_len first many (k - first) 0 there ∙ omega arith in
-      ap (list_all (λ j. not (sector_in image n j == 0))) (touched-some offset count some)
-      ∙ list_all_at (λ j. not (sector_in image n j == 0)) (range_with_len first many) (k - first) 0 (subst (λ l. k - first < l) (sym (length-range_with_len first many)) there)
-      (ap (λ j. not (sector_in image n j == 0)) is ∙ (λ z. not (none z == 0)))
-
-  -- none of them is
-  pub touched-all : ((k : ℕ) → offset / 512 ≤ k → k < sectors_of (offset + count) → sector_in image n k ≢ 0) → has_touched image n offset count ≡ true
-  unfolding has_touched
-  touched-all all = ⊎_elim
-      (λ (none : count ≡ 0). ap (list_all (λ j. not (sector_in image n j == 0))) (touched-none offset count none))
-      (λ (some : count ≢ 0). ap (list_all (λ j. not (sector_in image n j == 0))) (touched-some offset count some)
-      ∙ all-range (λ j. not (sector_in image n j == 0)) (offset / 512) _ (λ k low high z. not (ne_eqb (sector_in image n k) 0 (all k low (omega arith)) z)))
-      (cases_eq count 0)

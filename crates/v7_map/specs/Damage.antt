@@ -4,7 +4,8 @@ use Rattle.std.specs.List.{range_with_len, list_any, count_by, flat_map, find}
 use Rattle.files_model.specs.Files.{Slot, sectors_of}
 use Rattle.v7_map.specs.Image.{inode_sector}
 use Rattle.v7_map.specs.Frame.{Frame, Head, Place, Body, Single, Double, is_directory, body_places}
-use Rattle.v7_map.specs.Weak.{slot_at, parent, size_limit}
+use Rattle.files_model.specs.Space.{size_limit}
+use Rattle.v7_map.specs.Weak.{slot_at, parent}
 use Rattle.v7_map.specs.Tree.{seen_in, Tree, tree, number_in, is_walked, is_child, is_slot_of, seen_slots}
 
 -- The tests: of sector 1, of an inode, of its n-th place, of a directory, of its slot k.

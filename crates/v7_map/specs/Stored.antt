@@ -1,6 +1,6 @@
 -- What handles and calls mean, by the records of an image in which there is nothing to mend.
-use Rattle.std.specs.Prelude.{ℕ, ◌+◌, ◌-◌, ◌/◌, ◌%◌, min, Bool, true, false, List, [], ◌∷◌, length, map, take, drop, get_or, Option, Some, None, ◌==◌, nat_lt, nat_le, if◌then◌else◌, not, ◌&&◌}
-use Rattle.std.specs.List.{range_with_len, list_all, flat_map}
+use Rattle.std.specs.Prelude.{ℕ, ◌-◌, ◌/◌, ◌%◌, min, Bool, List, [], ◌∷◌, length, take, drop, get_or, Option, Some, None, ◌==◌, nat_lt, if◌then◌else◌, not, ◌&&◌}
+use Rattle.std.specs.List.{range_with_len, flat_map}
 use Rattle.stable.specs.Store.{Image}
 use Rattle.v7_layout.specs.declared.inode.Inode.{Inode}
 use Rattle.files_model.specs.declared.attributes.Attr.{Attr}
@@ -13,12 +13,11 @@ use Rattle.files_model.specs.declared.reply.Stat.{Stat}
 use Rattle.files_model.specs.declared.reply.Stat.TheVariants as stat
 use Rattle.files_model.specs.Files.{sectors_of, clipped}
 use Rattle.files_model.specs.Permission.{allows, is_directory, is_link}
-use Rattle.files_model.specs.Step.{touched, spliced, zeros, first_of, most_read}
-use Rattle.v7_map.specs.Image.{sector_at, is_inode, inode_at, is_read_only}
+use Rattle.files_model.specs.Step.{zeros, first_of, most_read}
+use Rattle.v7_map.specs.Image.{sector_at, is_inode, inode_at}
 use Rattle.v7_map.specs.Frame.{listed, body_places}
-use Rattle.v7_map.specs.Weak.{size_limit}
+use Rattle.files_model.specs.Space.{size_limit}
 use Rattle.v7_map.specs.View.{kind_of}
-use Rattle.v7_map.specs.Plan.{written_inode}
 
 -- ---- inodes, whatever stands in them
 
@@ -100,38 +99,3 @@ abbrev pub read_answer : Image → FileId → ℕ → ℕ → Cred → Reply
 read_answer image file offset count cred =
     let n = inode_at image file.ino in
     answer_standing image file (answer_by (read_refusal_by file.ino n cred) (reply.Data (stored_attr file.ino n) (read_bytes image n offset count)))
-
--- ---- WRITE inside a file
-
--- the refusal of a write of so many bytes to inode i that comes without a look at its sectors, if any
-abbrev pub write_refusal_by : Bool → ℕ → Inode → Cred → ℕ → ℕ → Option Stat
-write_refusal_by read_only i n cred offset count = first_of (
-    (read_only, stat.Rofs) ∷ (is_directory (kind_of (n.mode / 4096)), stat.Isdir) ∷ (is_link (kind_of (n.mode / 4096)), stat.Nxio)
-    ∷ (not (allows cred (stored_attr i n) want.Write), stat.Acces) ∷ (not (nat_le (offset + count) n.size), stat.Fbig) ∷ [])
-
--- no sector that a write of so many bytes touches is missing
-unfoldable pub has_touched : Image → Inode → ℕ → ℕ → Bool
-has_touched image n offset count = list_all (λ k. not (sector_in image n k == 0)) (touched offset count)
-
--- a refusal, or that of a missing sector
-abbrev pub or_missing : Option Stat → Bool → Option Stat
-or_missing (Some status) all_there = Some status
-or_missing None true = None
-or_missing None false = Some stat.Fbig
-
--- the refusal of a write of so many bytes to inode i, if any
-abbrev pub write_refusal_in : Image → ℕ → Cred → ℕ → ℕ → Option Stat
-write_refusal_in image i cred offset count =
-    let n = inode_at image i in
-    or_missing (write_refusal_by (is_read_only (sector_at image 1)) i n cred offset count) (has_touched image n offset count)
-
--- the answer of a write of so many bytes: the attributes have its time
-abbrev pub write_answer : Image → FileId → ℕ → ℕ → Cred → ℕ → Reply
-write_answer image file offset count cred now =
-    answer_standing image file (
-    answer_by (write_refusal_in image file.ino cred offset count) (reply.Attr (stored_attr file.ino (written_inode (inode_at image file.ino) now))))
-
--- the sectors that a write puts: each that it touches, with what stands there, zeros past the size, and the bytes
-abbrev pub write_puts : Image → Inode → ℕ → List ℕ → List (ℕ × List ℕ)
-write_puts image n offset bytes =
-    map (λ k. (sector_in image n k, spliced offset bytes k (clipped n.size k (sector_at image (sector_in image n k))))) (touched offset (length bytes))

@@ -3,12 +3,9 @@
 use Rattle.std.specs.Prelude.{◌≡◌, ◌≢◌, ℕ, ◌%◌, ◌<◌, ◌≤◌, true, false, List, [], ◌∷◌, get_or, Some, None, ◌==◌, ◌||◌, not}
 use Rattle.std.specs.List.{range_with_len, list_any}
 use Rattle.files_model.specs.Files.{Slot, sectors_of}
+use Rattle.files_model.specs.Space.{size_limit}
 use Rattle.v7_map.specs.Frame.{Frame, Head, Place, Body, Single, Double, is_directory}
 use Rattle.v7_map.specs.Tree.{Tree, tree, is_walked, links, is_named, is_child, seen_slots, number_in}
-
--- the greatest size of a file in bytes, 138 sectors
-abbrev pub size_limit : ℕ
-size_limit = 70656
 
 -- the super-block's numbers
 pub record HasSizes (f : Frame) : Type 0 where

@@ -1,6 +1,7 @@
 // The file that a handle means.
 
-ghost use Rattle.std.specs.Prelude.{◌≡◌, ◌<◌, IfOk, IfSome};
+ghost use Rattle.std.specs.Prelude.{◌≡◌, ◌<◌, ◌≤◌, IfOk, IfSome};
+ghost use Rattle.files_model.specs.Space.{size_limit};
 ghost use Rattle.stable.specs.Counts.{HasCause};
 ghost use Rattle.stable.specs.Looked.{Looked};
 ghost use Rattle.v7_map.specs.Found.{Finds};
@@ -21,6 +22,7 @@ use v7_layout::{Record, Super};
 /// limit, and an inode past the store's end is none.
 pub fn find<S: Stable>(store: &mut S, file: FileId) -> Result<Option<Found>, Failed>
     ensures found { S.tells → IsStrong (frame (S.image store.old)) → IfOk result (λ found. Finds (S.image store.old) file found) }
+    ensures within { IfOk result (λ found. IfSome found (λ found. found.inode.size ≤ size_limit)) }
     ensures stands { IfOk result (λ found. IfSome found (λ found. inode_sector file.ino < S.sector_count store.old)) }
     ensures cause { HasCause (S.faults store.old) (S.faults store.new) result }
     ensures looked { Looked S.Stable store.old store.new }

@@ -12,8 +12,8 @@ const DIRECTORY: u16 = 4;
 
 const LINK: u16 = 10;
 
-/// The greatest size of a file in bytes, 138 sectors.
-const SIZE_LIMIT: u32 = 70_656;
+/// The greatest size of a file in bytes: ten sectors by its inode and 128 by its block of addresses.
+pub const SIZE_LIMIT: u32 = 70_656;
 
 /// The kind of file that a mode says. On a volume that can be mended a used inode has no type but
 /// those of a directory, a link and a regular file.

@@ -13,7 +13,6 @@ mod places;
 mod read;
 mod sector;
 mod super_block;
-mod write;
 
 pub use blocks::read_places;
 pub use body::{clip, sectors_of, splice};
@@ -21,16 +20,12 @@ pub use content::{BodySector, body_sector};
 pub use found::Found;
 pub use get::{empty_sector, get_sector, sector_or_hole};
 pub use handle::find;
-pub use inode::{attributes_of, is_current, kind_of, with_limits};
-pub use laws::{
-    getattr_is_answered, read_is_answered, undamaged_is_weak, weak_is_undamaged, write_is_answered,
-    write_is_planned, write_is_put,
-};
+pub use inode::{SIZE_LIMIT, attributes_of, is_current, kind_of, with_limits};
+pub use laws::{getattr_is_answered, read_is_answered, undamaged_is_weak, weak_is_undamaged};
 pub use places::{inode_in, inode_offset_of, inode_sector_of};
 pub use read::read_refusal_of;
 pub use sector::sector_of;
 pub use super_block::{has_inode, has_sizes, inodes_of};
-pub use write::write_refusal_of;
 
 #[cfg(test)]
 mod tests;

@@ -46,16 +46,6 @@ module _ (sectors : ℕ) (s : Super) (can : has_sizes s.mark s.s_isize s.s_fsize
   low : 3 ≤ s.s_isize
   low = leb-true 3 s.s_isize (and_left _ _ (and_right (s.mark == 1) _ can))
 
-  -- sizes that can be have a sector for the root
-  pub root_inside : 2 < sectors
-  root_inside =
-      let high = and_right (leb 3 s.s_isize) _ (and_right (s.mark == 1) _ can) in
-      let above = and_right (leb s.s_isize 8193) _ high in
-      let within = and_right (ltb s.s_isize s.s_fsize) _ above in
-      let first = ltb-true s.s_isize s.s_fsize (and_left _ _ above) in
-      let last = leb-true s.s_fsize sectors (and_left _ _ within) in
-      omega (arith, low, first, last)
-
   root_below : (isize : ℕ) → 3 ≤ isize → is_number_below isize 2 ≡ true
   root_below isize le = le-leb 2 (inodes_before isize) (omega arith)
 

@@ -1,10 +1,9 @@
 pub mod Applying
-pub mod Building
+pub mod Committing
 pub mod Counting
 pub mod HasVolume
 pub mod OpenMarks
 pub mod Naming
-pub mod Preparing
 pub mod Reading
 pub mod Resting
 pub mod Starts

@@ -1,5 +1,5 @@
 -- A volume that is opened: mended, marked, and read.
-use Rattle.std.proofs.Common.{◌≡◌, ℕ, ◌+◌, ◌≤◌, false, sym, ap, ◌∙◌, subst, inl, inr, arith}
+use Rattle.std.proofs.Common.{◌≡◌, ℕ, ◌+◌, ◌≤◌, sym, ap, ◌∙◌, subst, inl, inr, arith}
 use Rattle.stable.specs.Moments.{IsClocked, LeavesOnly}
 use Rattle.stable.specs.States.{ArePuts, SomePuts}
 use Rattle.stable.specs.Store.{Image, name_in}
@@ -7,10 +7,8 @@ use Rattle.stable.specs.declared.snapshot.Snapshot.{Snapshot}
 use Rattle.stable.specs.declared.store.Stable.{Ghosts}
 use Rattle.stable.proofs.Clocked.{goes_on, weaker}
 use Rattle.stable.proofs.Counted.{made_then, wider_made}
-use Rattle.v7_map.specs.Damage.{Sizes, passes}
-use Rattle.v7_map.specs.Frame.{Frame, frame}
+use Rattle.v7_map.specs.Frame.{Frame}
 use Rattle.v7_map.specs.Weak.{IsWeak}
-use Rattle.v7_map.proofs.SuperBlock.{sizes-pass}
 use Rattle.v7_repair.specs.Leaves.{IsRepaired, MayMend}
 use Rattle.v7_repair.specs.Runs.{repair_puts}
 use Rattle.v7_repair.specs.declared.mended.Mended.{Mended}

@@ -26,11 +26,6 @@ pub record IsDone (files : Files) (call : Call) (cred : Cred) (now : ℕ) (reply
   pub view_is : view image ≡ (step files call cred now).1
   pub strong : IsStrong (frame image)
 
--- the call is done in part
-pub record IsInterrupted (files : Files) (call : Call) (cred : Cred) (now : ℕ) (image : Image) : Type 0 where
-  pub torn : Torn files ((call, cred) ∷ []) now (view image)
-  pub strong : IsStrong (frame image)
-
 -- nothing has changed
 pub record IsKept (files : Files) (image : Image) : Type 0 where
   pub view_is : view image ≡ files
@@ -39,7 +34,7 @@ pub record IsKept (files : Files) (image : Image) : Type 0 where
 -- what each outcome leaves
 abbrev pub Leaves : Files → Call → Cred → ℕ → Outcome → Image → Type 0
 Leaves files call cred now (outcome.Reply reply) image = IsDone files call cred now reply image
-Leaves files call cred now outcome.Io image = IsInterrupted files call cred now image
+Leaves files call cred now outcome.Io image = IsTornImage files ((call, cred) ∷ []) now image
 Leaves files call cred now outcome.NoMemory image = IsKept files image
 
 -- the count of faults doesn't fall, and Io has a cause
@@ -83,13 +78,6 @@ pub record IsApplied {S : Type 0} (s : Ghosts S) (old new : S) (call : Call) (cr
   pub form : HasFormOf call result
   pub cause : HasFault result (s.faults old) (s.faults new)
   pub crash : LeavesOnly s.moment s.left_since old new (λ i. IsStrong (frame (s.image old)) → CrashLeaves (view (s.image old)) call cred now result i)
-
--- how many sectors a call puts at most
-abbrev pub most_puts : Call → ℕ
-most_puts (call.Getattr file) = 0
-most_puts (call.Read file offset count) = 0
-most_puts (call.Write file offset bytes) = 18
-most_puts c = 0
 
 -- ---- hurt or not
 

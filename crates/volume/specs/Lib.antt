@@ -1,10 +1,10 @@
 pub mod Applied
+pub mod Committed
+pub mod Costs
 pub mod Keeps
 pub mod Marks
 pub mod Mends
 pub mod Mounted
 pub mod Opened
 pub mod Opens
-pub mod Prepares
 pub mod Rests
-pub mod Writes

@@ -1,6 +1,7 @@
 -- What an open volume has.
 use Rattle.std.specs.Prelude.{◌≡◌, ℕ, Bool, List}
 use Rattle.files_model.specs.declared.attributes.FileId.{FileId}
+use Rattle.v7_sets.specs.declared.sets.Sets.{Sets}
 use Rattle.volume.specs.declared.mounted.Volume.{Volume}
 
 -- the store that it stands on
@@ -10,6 +11,10 @@ store_of volume = volume.store
 -- whether it may have something to mend
 abbrev pub is_hurt : {S : Type 0} → Volume S → Bool
 is_hurt volume = volume.hurt
+
+-- what it keeps as free
+abbrev pub sets_of : {S : Type 0} → Volume S → Sets
+sets_of volume = volume.sets
 
 -- the blocks that it keeps as free
 abbrev pub free_blocks : {S : Type 0} → Volume S → List Bool

@@ -1,13 +1,11 @@
 // One call on a volume with nothing to mend.
 ghost use Rattle.std.specs.Prelude.{◌≡◌, true, false};
 ghost use Rattle.files_model.specs.Step.{has_row, is_change};
-ghost use Rattle.stable.specs.Moments.{LeavesOnly};
-ghost use Rattle.stable.specs.States.{SomePuts};
 ghost use Rattle.stable.specs.Store.{StaysOpenable};
-ghost use Rattle.v7_map.specs.Frame.{frame};
-ghost use Rattle.v7_map.specs.Weak.{IsStrong};
-ghost use Rattle.volume.specs.Applied.{IsApplied, hurts, most_puts};
-ghost use Rattle.volume.specs.Keeps.{SameName};
+ghost use Rattle.v7_map.specs.View.{view};
+ghost use Rattle.volume.specs.Applied.{Applies, hurts};
+ghost use Rattle.volume.specs.Costs.{CostsAtMost, call_cost, most_puts};
+ghost use Rattle.volume.specs.Rests.{RestsOn};
 
 use crate::getattr::getattr;
 use crate::outcome::Outcome;
@@ -16,6 +14,7 @@ use crate::write::write;
 use files_model::{Call, Cred};
 use stable::Stable;
 use std::alloc::Global;
+use v7_sets::Sets;
 
 // Whether a call changes files.
 fn changes(call: &Call) -> bool
@@ -47,18 +46,18 @@ pub fn is_hurt_by(call: &Call, outcome: &Outcome) -> bool
 pub fn make_call<S: Stable>(
     alloc: Global,
     store: &mut S,
+    sets: &mut Sets,
     call: &Call,
     cred: &Cred,
     now: u32,
 ) -> Outcome
-    requires { has_row call.now ≡ true }
-    ensures applied { IsApplied S.Stable store.old store.new call.now cred.now now result }
-    ensures idle { S.tells → is_change call.now ≡ false → S.image store.new ≡ S.image store.old }
-    ensures frame { S.tells → IsStrong (frame (S.image store.old)) → frame (S.image store.new) ≡ frame (S.image store.old) }
-    ensures name { LeavesOnly S.moment S.left_since store.old store.new (SameName (S.image store.old)) }
+    requires row { has_row call.now ≡ true }
+    requires rest { RestsOn S.Stable store.old false sets.old }
+    ensures rest { RestsOn S.Stable store.new (hurts call.now result) sets.new }
+    ensures applied { Applies S.Stable store.old store.new false (hurts call.now result) call.now cred.now now result }
     ensures opens { StaysOpenable S.opens_since S.moment store.old store.new }
     ensures sectors { S.sector_count store.new ≡ S.sector_count store.old }
-    ensures snapshot { SomePuts (most_puts call.now) (S.faults store.old) (S.faults store.new) (S.snapshot_of store.old) (S.snapshot_of store.new) }
+    ensures snapshot { CostsAtMost S.Stable store.old store.new false (most_puts call.now) (call_cost (view (S.image store.old)) call.now cred.now now) }
 {
     match call {
         Call::Getattr { file } => getattr(store, *file, cred, now),
@@ -71,7 +70,7 @@ pub fn make_call<S: Stable>(
             file,
             offset,
             bytes,
-        } => write(alloc, store, *file, *offset, bytes.bytes(), cred, now),
+        } => write(alloc, store, sets, *file, *offset, bytes.bytes(), cred, now),
         _ => unreachable!(),
     }
 }

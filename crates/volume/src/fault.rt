@@ -1,7 +1,6 @@
 // Why a part of a call isn't done.
-use files_model::NoMemory;
 use stable::Failed;
-use std::alloc::{AllocError, AllocFailed};
+use std::alloc::AllocError;
 
 /// Why bytes weren't read. Nothing was changed.
 #[derive(Clone, Copy, PartialEq, Eq)]
@@ -10,15 +9,6 @@ pub enum ReadFault {
     Failed,
     /// There was no memory.
     NoMemory,
-}
-
-/// Why there is no plan. Nothing was changed.
-#[derive(Clone, Copy, PartialEq, Eq)]
-pub enum BuildFault {
-    /// A sector that is touched is missing.
-    Missing,
-    /// The device failed.
-    Failed,
 }
 
 impl From<Failed> for ReadFault {
@@ -40,16 +30,5 @@ impl From<AllocError> for ReadFault {
 
     fn from(_: AllocError) -> Self {
         ReadFault::NoMemory
-    }
-}
-
-impl From<Failed> for BuildFault {
-    ghost use Rattle.std.specs.Prelude.{◌≡◌};
-    ghost use Rattle.volume.specs.declared.fault.BuildFault.TheVariants as fault;
-
-    ghost from_gives = { λ _ e. e ≡ fault.Failed };
-
-    fn from(_: Failed) -> Self {
-        BuildFault::Failed
     }
 }

@@ -1,7 +1,7 @@
 //! The calls on a volume, over any store of its sectors: it is opened mended, mended again after a failed change, and stopped with its free chain.
 #![tactic(auto)]
 
-mod build;
+mod batch;
 mod calling;
 mod fault;
 mod getattr;
@@ -9,14 +9,12 @@ mod marking;
 mod mounted;
 mod opening;
 mod outcome;
-mod prepare;
-mod prepared;
 mod read;
 mod starting;
 mod write;
 
 pub use mounted::Volume;
-pub use outcome::Outcome;
+pub use outcome::{Commit, Outcome};
 
 #[cfg(test)]
 mod tests;

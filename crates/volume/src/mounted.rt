@@ -1,9 +1,10 @@
 // A volume that is open.
+use crate::batch::{is_hurt_after, make_batch};
 use crate::calling::{is_hurt_by, make_call};
 use crate::opening::Title;
-use crate::outcome::Outcome;
+use crate::outcome::{Commit, Outcome};
 use crate::starting::{Opening, open_store};
-use files_model::{Call, Cred, FileId, Reply};
+use files_model::{Call, Cred, FileId, Reply, WriteItem};
 use stable::{Answer, Battery, Command, Failed, FlushAnswer, Snapshot, SteeredStore, Tended};
 use std::alloc::Global;
 use v7_damage::RepairFault;
@@ -24,8 +25,10 @@ pub struct Volume<S> {
 }
 
 impl<S: Tended> Volume<S> {
-    ghost use Rattle.std.specs.Prelude.{◌≡◌, ◌+◌, true, false, Ok, IfOk, OnOk, IsErrOf};
+    ghost use Rattle.std.specs.Prelude.{◌≡◌, ◌≤◌, ◌+◌, true, false, length, Ok, IfOk, OnOk, IsErrOf};
+    ghost use Rattle.files_model.specs.Batch.{cost};
     ghost use Rattle.files_model.specs.Step.{has_row};
+    ghost use Rattle.plan_file.specs.Planned.{plan_puts};
     ghost use Rattle.stable.specs.Counts.{HasCause, Rose};
     ghost use Rattle.stable.specs.Looked.{Looked, KeepsImage};
     ghost use Rattle.stable.specs.Moments.{LeavesOnly};
@@ -34,8 +37,11 @@ impl<S: Tended> Volume<S> {
     ghost use Rattle.v7_damage.specs.declared.damage.RepairFault.TheVariants as fault;
     ghost use Rattle.v7_inspect.specs.SeenNumbers.{IsInspected};
     ghost use Rattle.v7_make.specs.Chains.{IsChained};
+    ghost use Rattle.v7_map.specs.View.{view};
     ghost use Rattle.v7_repair.specs.Runs.{repair_puts};
-    ghost use Rattle.volume.specs.Applied.{Applies, most_puts};
+    ghost use Rattle.volume.specs.Applied.{Applies};
+    ghost use Rattle.volume.specs.Committed.{Commits};
+    ghost use Rattle.volume.specs.Costs.{CostsAtMost, call_cost, most_puts};
     ghost use Rattle.volume.specs.Keeps.{SameVolume, MayOpen};
     ghost use Rattle.volume.specs.Mends.{Mends, mend_puts, stop_puts};
     ghost use Rattle.volume.specs.Mounted.{store_of, is_hurt, free_blocks, free_inodes, name_of, root_of, KeepsTitle, SameButStore};
@@ -120,15 +126,45 @@ impl<S: Tended> Volume<S> {
         ensures opens { StaysOpenable S.opens_since S.moment (store_of self.old) (store_of self.new) }
         ensures sectors { S.sector_count (store_of self.new) ≡ S.sector_count (store_of self.old) }
         ensures titled { KeepsTitle self.old self.new }
-        ensures snapshot { SomePuts (mend_puts (is_hurt self.old) + most_puts call.now) (S.faults (store_of self.old)) (S.faults (store_of self.new)) (S.snapshot_of (store_of self.old)) (S.snapshot_of (store_of self.new)) }
+        ensures snapshot { CostsAtMost S.Stable (store_of self.old) (store_of self.new) (is_hurt self.old) (most_puts call.now) (call_cost (view (S.image (store_of self.old))) call.now cred.now now) }
     {
         match self.mend() {
             Outcome::Reply(_) => {}
             Outcome::Io => return Outcome::Io,
             Outcome::NoMemory => return Outcome::NoMemory,
         }
-        let outcome = make_call(self.alloc, &mut self.store, call, cred, now);
+        let outcome = make_call(self.alloc, &mut self.store, &mut self.sets, call, cred, now);
         self.hurt = is_hurt_by(call, &outcome);
+        outcome
+    }
+
+    /// Writes a batch of 1 to 16 writes to one file, all at this second (RFC 1094 2.2.9); a hurt volume is mended first. The replies are those of
+    /// the writes one after the other, in order. Each touched sector is put once, and then the inode. Io comes only where a device failed in the
+    /// call; the writes may then be done in part, and the volume is hurt. NoMemory leaves the files as they were.
+    pub fn commit(&mut self, file: FileId, batch: &[WriteItem], now: u32) -> Commit
+        requires few { (1 ≤ length batch.now) × (length batch.now ≤ 16) }
+        requires rest { Rests S.Stable self.old }
+        ensures rest { Rests S.Stable self.new }
+        ensures committed { Commits S.Stable (store_of self.old) (store_of self.new) (is_hurt self.old) (is_hurt self.new) file batch.now now result }
+        ensures opens { StaysOpenable S.opens_since S.moment (store_of self.old) (store_of self.new) }
+        ensures sectors { S.sector_count (store_of self.new) ≡ S.sector_count (store_of self.old) }
+        ensures titled { KeepsTitle self.old self.new }
+        ensures snapshot { CostsAtMost S.Stable (store_of self.old) (store_of self.new) (is_hurt self.old) plan_puts (cost (view (S.image (store_of self.old))) file batch.now now) }
+    {
+        match self.mend() {
+            Outcome::Reply(_) => {}
+            Outcome::Io => return Commit::Io,
+            Outcome::NoMemory => return Commit::NoMemory,
+        }
+        let outcome = make_batch(
+            self.alloc,
+            &mut self.store,
+            &mut self.sets,
+            file,
+            batch,
+            now,
+        );
+        self.hurt = is_hurt_after(&outcome);
         outcome
     }
 

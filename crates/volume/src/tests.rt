@@ -4,6 +4,8 @@ ghost use Rattle.std.specs.Prelude.{◌≡◌, true, IfOk};
 ghost use Rattle.files_model.specs.Step.{has_row};
 ghost use Rattle.volume.specs.Rests.{Rests};
 
+mod growth;
+
 use crate::{Outcome, Volume};
 use files_model::{Attr, Call, Cred, Data, FileId, Gids, Kind, Reply, Stat};
 use stable::{Answer, Battery, Command, FlushAnswer, Stable, State};

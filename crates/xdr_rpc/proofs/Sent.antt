@@ -1,14 +1,12 @@
--- A call that was sent is read.
-use Rattle.std.proofs.Common.{◌≡◌, ℕ, ◌^◌, ◌<◌, ◌≤◌, true, false, ltb, List, [], ◌∷◌, ◌++◌, length, Some, refl, sym, ap, ◌∙◌, append_assoc, length-append, arith}
+-- A caller that was sent is read.
+use Rattle.std.proofs.Common.{◌≡◌, ℕ, ◌^◌, ◌<◌, ◌≤◌, false, ltb, List, [], ◌∷◌, ◌++◌, length, Some, refl, sym, ap, ◌∙◌, append_assoc, length-append, arith}
 use Rattle.std.specs.List.{AllByRecursion}
-use Rattle.std.proofs.lemmas.Bool.{le-ltb, le-leb}
+use Rattle.std.proofs.lemmas.Bool.{le-ltb}
 use Rattle.std.proofs.lemmas.List.{append-nil}
 use Rattle.files_model.specs.declared.credential.Cred.{Cred}
-use Rattle.xdr_rpc.specs.declared.call.RpcCall.{RpcCall}
-use Rattle.xdr_rpc.specs.declared.header.Header.{Header}
 use Rattle.xdr_rpc.specs.Words.{word, words, opaque_bytes}
-use Rattle.xdr_rpc.specs.Calls.{header, is_served, auth, id_of, ids, groups, auth_unix, rpc_call}
-use Rattle.xdr_rpc.specs.Sending.{auth_bytes, unix_body, sent_as, call_bytes, CanBeSent}
+use Rattle.xdr_rpc.specs.Calls.{id_of, ids, groups, auth_unix}
+use Rattle.xdr_rpc.specs.Sending.{unix_body}
 use Rattle.xdr_rpc.proofs.Sheets.{length-words, length-opaque_bytes, padding_short}
 use Rattle.xdr_rpc.proofs.RoundTrip.{words_none, words_again, opaque_again}
 
@@ -62,45 +60,3 @@ length-unix_body cred machine short few =
       length-opaque_bytes machine,
       padding_short (length machine),
     )
-
-auth_again : (flavour : ℕ) (body rest : List ℕ) → flavour < 2 ^ 32 → length body ≤ 400 → auth (auth_bytes flavour body ++ rest) ≡ Some ((flavour, body), rest)
-unfolding auth
-auth_again flavour body rest lt short =
-    ap auth (append_assoc (words (flavour ∷ [])) (opaque_bytes body) rest)
-    ∙ rw (word_alone flavour (opaque_bytes body ++ rest) lt, opaque_again 400 body rest short (omega arith)) refl
-
-abbrev header_of : RpcCall → Header
-header_of c = record { xid = c.xid; kind = 0; rpc_version = 2; program = c.program; version = 2; procedure = c.procedure }
-
-header_again : (c : RpcCall) (rest : List ℕ) → CanBeSent c → header (words (c.xid ∷ 0 ∷ 2 ∷ c.program ∷ 2 ∷ c.procedure ∷ []) ++ rest) ≡ Some (header_of c, rest)
-unfolding header
-header_again c rest can =
-    let program : c.program < 2 ^ 32 = omega (arith, can.program) in
-    let procedure : c.procedure < 2 ^ 32 = omega (arith, can.procedure) in
-    rw (
-      words_again c.xid (0 ∷ 2 ∷ c.program ∷ 2 ∷ c.procedure ∷ []) rest can.xid,
-      words_again 0 (2 ∷ c.program ∷ 2 ∷ c.procedure ∷ []) rest (omega arith),
-      words_again 2 (c.program ∷ 2 ∷ c.procedure ∷ []) rest (omega arith),
-      words_again c.program (2 ∷ c.procedure ∷ []) rest program,
-      words_again 2 (c.procedure ∷ []) rest (omega arith),
-      word_alone c.procedure rest procedure,
-    ) refl
-
-served : (c : RpcCall) → CanBeSent c → is_served (header_of c) ≡ true
-served c can = rw (can.program, le-leb c.procedure 17 can.procedure) refl
-
-pub call_again : (c : RpcCall) → CanBeSent c → rpc_call (call_bytes c) ≡ Some c
-unfolding rpc_call sent_as
-call_again c can =
-    let head : List ℕ = words (c.xid ∷ 0 ∷ 2 ∷ c.program ∷ 2 ∷ c.procedure ∷ []) in
-    let body : List ℕ = unix_body c.cred c.machine in
-    let regrouped : ((head ++ auth_bytes 1 body) ++ auth_bytes 0 []) ++ c.args ≡ head ++ (auth_bytes 1 body ++ (auth_bytes 0 [] ++ c.args)) =
-    append_assoc (head ++ auth_bytes 1 body) (auth_bytes 0 []) c.args ∙ append_assoc head (auth_bytes 1 body) (auth_bytes 0 [] ++ c.args) in
-    ap rpc_call regrouped
-    ∙ rw (
-      header_again c (auth_bytes 1 body ++ (auth_bytes 0 [] ++ c.args)) can,
-      auth_again 1 body (auth_bytes 0 [] ++ c.args) (omega arith) (length-unix_body c.cred c.machine can.caller.machine can.caller.few_groups),
-      auth_again 0 [] c.args (omega arith) (omega arith),
-      served c can,
-      unix_again c.cred c.machine can.caller.machine can.caller.user can.caller.group can.caller.few_groups can.caller.groups,
-    ) refl

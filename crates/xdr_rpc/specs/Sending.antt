@@ -19,9 +19,6 @@ unix_body cred machine = words (0 ∷ []) ++ opaque_bytes machine ++ words (cred
 unfoldable pub sent_as : ℕ → RpcCall → List ℕ
 sent_as version c = words (c.xid ∷ 0 ∷ 2 ∷ c.program ∷ version ∷ c.procedure ∷ []) ++ auth_bytes 1 (unix_body c.cred c.machine) ++ auth_bytes 0 [] ++ c.args
 
-abbrev pub call_bytes : RpcCall → List ℕ
-call_bytes c = sent_as 2 c
-
 -- a caller whose numbers fit their words and whose lists are not too long
 pub record CallerFits (cred : Cred) (from : List ℕ) : Type 0 where
   pub machine : length from ≤ 255
@@ -29,13 +26,6 @@ pub record CallerFits (cred : Cred) (from : List ℕ) : Type 0 where
   pub group : cred.gid < 2 ^ 16
   pub few_groups : length cred.gids ≤ 16
   pub groups : AllByRecursion (λ g. g < 2 ^ 16) cred.gids
-
--- a call of a procedure of NFS version 2, whose numbers fit their words and whose lists are not too long
-pub record CanBeSent (c : RpcCall) : Type 0 where
-  pub xid : c.xid < 2 ^ 32
-  pub program : c.program ≡ 100003
-  pub procedure : c.procedure ≤ 17
-  pub caller : CallerFits c.cred c.machine
 
 -- what it asks for, of that version
 abbrev pub asks : ℕ → RpcCall → Asked

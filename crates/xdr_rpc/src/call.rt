@@ -19,10 +19,3 @@ pub struct RpcCall {
     pub machine: Name,
     pub args: Data9,
 }
-
-/// What a datagram is: a call, or nothing that is answered.
-#[derive(Drop)]
-pub enum Read {
-    Call(RpcCall),
-    NoReply,
-}

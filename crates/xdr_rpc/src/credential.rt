@@ -1,7 +1,7 @@
 //! Who calls (RFC 1057 9.2).
-ghost use Rattle.std.specs.Prelude.{◌≡◌, ◌≤◌, length, IfSome};
+ghost use Rattle.std.specs.Prelude.{◌≡◌, ◌≤◌};
 ghost use Rattle.xdr_rpc.specs.Words.{Gives};
-ghost use Rattle.xdr_rpc.specs.Calls.{auth, id_of, ids, groups, auth_unix};
+ghost use Rattle.xdr_rpc.specs.Calls.{id_of, ids, groups, auth_unix};
 
 use crate::reading::{opaque_at, word_at};
 use arrayvec::ArrayVec;
@@ -24,17 +24,6 @@ pub const NOBODY: u16 = 65534;
 pub struct Auth<'a> {
     pub flavour: u32,
     pub body: &'a [u8],
-}
-
-/// A flavour and a body of at most 400 bytes, and the bytes after its padding (RFC 1057 8.2).
-#[tactic(auto, unfolding(crate::specs::Calls::auth))]
-pub fn auth_at(bytes: &[u8]) -> Option<(Auth<'_>, &[u8])>
-    ensures value { Gives (λ x. ((x.0.flavour, x.0.body.now), x.1.now)) result (auth bytes.now) }
-    ensures shorter { IfSome result (λ x. length x.1.now ≤ length bytes.now) }
-{
-    let (flavour, rest) = word_at(bytes)?;
-    let (body, rest) = opaque_at(rest, LONGEST_BODY)?;
-    Some((Auth { flavour, body }, rest))
 }
 
 fn id_from(word: u32) -> u16

@@ -3,8 +3,6 @@
 
 mod call;
 mod credential;
-mod datagram;
-mod header;
 mod reading;
 mod refusal;
 mod rpc;
@@ -12,8 +10,7 @@ mod sheet;
 mod short_reply;
 mod tests_in_order;
 
-pub use call::{Data9, Read, ReplyBytes, RpcCall};
-pub use datagram::read_call;
+pub use call::{Data9, ReplyBytes, RpcCall};
 pub use reading::{fixed_at, opaque_at, word_at};
 pub use refusal::{Cause, garbage_reply, refusal_of, too_weak_reply, void_reply};
 pub use rpc::{RpcRead, read_rpc};

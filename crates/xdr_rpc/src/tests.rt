@@ -21,7 +21,7 @@ const CASES: [(usize, u32, usize, bool); 15] = [
     (2, 3, 116, false),
     (4, 3, 116, false),
     (5, 18, 116, false),
-    (6, 0, 116, false),
+    (6, 0, 116, true),
     (7, 401, 116, false),
     (7, 23, 116, false),
     (9, 0xffffffff, 116, false),
@@ -41,9 +41,9 @@ fn read_changed(
     }
     let mut bytes = [0; 116];
     BigEndian::write_u32_into(&words, &mut bytes);
-    match read_call(alloc, &bytes[..len.min(116)])? {
-        Read::Call(call) => Ok(Some(call)),
-        Read::NoReply => Ok(None),
+    match read_rpc(alloc, &bytes[..len.min(116)])? {
+        RpcRead::Call(call) => Ok(Some(call)),
+        _ => Ok(None),
     }
 }
 

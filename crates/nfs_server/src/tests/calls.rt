@@ -85,43 +85,60 @@ fn what_was_written_is_read(rt: HostRuntime) -> Result<(), Fail> {
     Ok(())
 }
 
-// A file of 138 sectors of which three are held: 9 by its inode, 10 and 137 by its indirect block, sector 7.
-fn long_file(changed: u32) -> Inode
+// A file of 138 sectors of which three are held: 9 by its inode, 10 and 137 by its indirect block, sector 7. Once they are filled, 8 and 11 are
+// held too.
+fn long_file(filled: bool) -> Inode
     ensures { AddressesFit result }
 {
+    if filled {
+        return Inode {
+            size: 70656,
+            direct: [0, 0, 0, 0, 0, 0, 0, 0, 9, 5],
+            single: 7,
+            mtime: 2000,
+            ctime: 2000,
+            ..file(FRESH)
+        };
+    }
     Inode {
         size: 70656,
         direct: [0, 0, 0, 0, 0, 0, 0, 0, 0, 5],
         single: 7,
-        mtime: changed,
-        ctime: changed,
         ..file(FRESH)
     }
 }
 
-// The disk of that file, of bytes `a`, `b` and `c` but for these.
-fn long_disk(
-    alloc: Global,
-    changed: u32,
-    middle: [u8; 2],
-    end: [u8; 2],
-) -> Result<Vec<[u8; 512]>, Fail> {
-    let mut ninth = [b'a'; 512];
-    ninth[511] = middle[0];
-    let mut tenth = [b'b'; 512];
-    tenth[0] = middle[1];
+// What is written to its sectors 9, 10, 11, 137 and 8.
+fn fill(blocks: &mut [[u8; 512]; 6]) {
+    blocks[0][511] = b'X';
+    blocks[1][0] = b'Y';
+    blocks[1][511] = b'X';
+    blocks[2][4] = 10;
+    blocks[3][510] = b'X';
+    blocks[3][511] = b'Y';
+    blocks[4][510] = b'X';
+    blocks[4][511] = b'Y';
+    blocks[5][0] = b'Y';
+    blocks[5][1] = b'Y';
+}
+
+// The disk of that file, of bytes `a`, `b` and `c`, before the calls and after them.
+fn long_disk(alloc: Global, filled: bool) -> Result<Vec<[u8; 512]>, Fail> {
     let mut addresses = [0; 512];
     addresses[0] = 6;
     addresses[508] = 8;
-    let mut last = [b'c'; 512];
-    last[510] = end[0];
-    last[511] = end[1];
-    Ok(sectors_of(
-        alloc,
-        0,
-        &long_file(changed),
-        &[ninth, tenth, addresses, last],
-    )?)
+    let mut blocks = [
+        [b'a'; 512],
+        [b'b'; 512],
+        addresses,
+        [b'c'; 512],
+        [0; 512],
+        [0; 512],
+    ];
+    if filled {
+        fill(&mut blocks);
+    }
+    Ok(sectors_of(alloc, 0, &long_file(filled), &blocks)?)
 }
 
 const LONG_BEFORE: [u32; 17] = [
@@ -133,7 +150,7 @@ const LONG_AFTER: [u32; 17] = [
 ];
 
 // Sector 9 begins at byte 4,608, 10 at 5,120, 11 at 5,632 and 137 at 70,144.
-const LONG_ROWS: [Row; 12] = [
+const LONG_ROWS: [Row; 13] = [
     // a hole of the direct addresses, and where it ends
     (READ, 1, &[0, 4, 0], &[&[0], &LONG_BEFORE, &[4, 0]]),
     (
@@ -142,7 +159,13 @@ const LONG_ROWS: [Row; 12] = [
         &[4606, 4, 0],
         &[&[0], &LONG_BEFORE, &[4, 0x00006161]],
     ),
-    (WRITE, 1, &[0, 4606, 0, 2, 0x58590000], &[&[27]]),
+    (WRITE, 1, &[0, 4606, 0, 2, 0x58590000], &[&[0], &LONG_AFTER]),
+    (
+        READ,
+        1,
+        &[4604, 8, 0],
+        &[&[0], &LONG_AFTER, &[8, 0x00005859, 0x61616161]],
+    ),
     // the last direct sector and the first of the indirect block
     (WRITE, 1, &[0, 5119, 0, 2, 0x58590000], &[&[0], &LONG_AFTER]),
     (
@@ -152,13 +175,13 @@ const LONG_ROWS: [Row; 12] = [
         &[&[0], &LONG_AFTER, &[4, 0x61585962]],
     ),
     // a hole of the indirect block, and the sector before it
-    (WRITE, 1, &[0, 5632, 0, 2, 0x58590000], &[&[27]]),
-    (WRITE, 1, &[0, 5631, 0, 2, 0x58590000], &[&[27]]),
+    (WRITE, 1, &[0, 5632, 0, 2, 0x58590000], &[&[0], &LONG_AFTER]),
+    (WRITE, 1, &[0, 5631, 0, 2, 0x58590000], &[&[0], &LONG_AFTER]),
     (
         READ,
         1,
         &[5630, 4, 0],
-        &[&[0], &LONG_AFTER, &[4, 0x62620000]],
+        &[&[0], &LONG_AFTER, &[4, 0x62585959]],
     ),
     // the last sector of the indirect block
     (
@@ -185,13 +208,13 @@ const LONG_ROWS: [Row; 12] = [
 #[test]
 fn a_long_file_is_reached_through_its_indirect_block(rt: HostRuntime) -> Result<(), Fail> {
     let alloc = rt.alloc();
-    let rig = rig_with(alloc, long_disk(alloc, 1000, *b"ab", *b"cc")?);
+    let rig = rig_with(alloc, long_disk(alloc, false)?);
     let Some(host) = answered(alloc, rig, &LONG_ROWS)? else {
         panic!(rt; "another reply");
     };
     let Some(rig) = rig_of(host) else {
         panic!(rt; "no rig came back");
     };
-    assert!(rt; has_files(&rig, &long_disk(alloc, 2000, *b"XY", *b"XY")?, 9));
+    assert!(rt; has_files(&rig, &long_disk(alloc, true)?, 11));
     Ok(())
 }

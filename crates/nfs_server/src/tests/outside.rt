@@ -4,7 +4,7 @@ ghost use Rattle.volume.specs.Rests.{Rests};
 
 use crate::serve;
 use crate::tests::worked::CLIENT;
-use nfs_worker::Cells;
+use nfs_worker::{Cells, open_cells};
 use presto_recover::open;
 use presto_unit::Presto;
 use rig::{Packet, Post};
@@ -24,7 +24,7 @@ pub fn cells(alloc: Global, rig: MemRig) -> Option<Cells<Presto<MemRig>>>
         return None;
     };
     match Volume::open(alloc, opened.presto, 1500) {
-        Ok((volume, _repaired)) => Some(Cells { alloc, volume }),
+        Ok((volume, _repaired)) => open_cells(alloc, volume).ok(),
         Err(_) => None,
     }
 }

@@ -28,7 +28,7 @@ const ROWS: [(Shape, usize, u32, u32); 12] = [
     (FRESH, 18, 2, 21),
     (LINK, 11, 200, 6),
     (FRESH, 11, 200, 13),
-    (FRESH, 25, 1023, 27),
+    (FRESH, 25, 70_655, 27),
     (FRESH, 25, 0xffff_ffff, 27),
 ];
 

@@ -1,13 +1,30 @@
 //! Single turns, and what each says.
+ghost use Rattle.volume.specs.Rests.{Rests};
+
 use crate::tests::outside::{cells, datagram, post};
 use crate::tests::volumes::{is_volume, rig};
 use crate::tests::worked::{CLIENT, worked_write, write_with};
 use nfs_worker::taking::turn;
-use nfs_worker::{DropCause, ServerPass, Turn};
+use nfs_worker::{Cells, DropCause, ServerPass, Turn};
+use presto_unit::Presto;
 use rig::{Address, Event, Failed, Link, Packet, Post};
-use rig_mem::{MemClock, MemEvent, StillPauser};
+use rig_mem::{MemClock, MemEvent, MemLink, MemRig, StillPauser};
+use stable::Stable;
 use std::test::Fail;
 use volume_mem::{FRESH, WRITTEN};
+
+// Takes a turn. Whether it is this one.
+fn is_next(
+    cells: &mut Cells<Presto<MemRig>>,
+    post: &mut Post<MemLink, MemClock, StillPauser>,
+    pass: &mut ServerPass,
+    wanted: Turn,
+) -> bool
+    requires { Rests ⟦<Presto<MemRig> as Stable>⟧ cells.old.volume }
+    ensures { Rests ⟦<Presto<MemRig> as Stable>⟧ cells.new.volume }
+{
+    pass.numbers.received < 6 && turn(cells, post, pass) == wanted
+}
 
 #[test]
 fn each_event_has_its_turn(rt: HostRuntime) -> Result<(), Fail> {
@@ -23,17 +40,14 @@ fn each_event_has_its_turn(rt: HostRuntime) -> Result<(), Fail> {
     let Some(mut cells) = cells(alloc, rig(alloc, FRESH)?) else {
         panic!(rt; "the volume wasn't opened");
     };
-    for wanted in [
-        Turn::Dropped(DropCause::NoMeaning),
-        Turn::Idle,
-        Turn::Answered(1),
-        Turn::Dropped(DropCause::ReceiveFailed),
-        Turn::Answered(1),
-        Turn::Closed,
-    ] {
-        assert!(rt; pass.numbers.received < 6);
-        assert_eq!(rt; turn(&mut cells, &mut post, &mut pass), wanted);
-    }
+    let unmeant = Turn::Dropped(DropCause::NoMeaning);
+    let failed = Turn::Dropped(DropCause::ReceiveFailed);
+    assert!(rt; is_next(&mut cells, &mut post, &mut pass, unmeant));
+    assert!(rt; is_next(&mut cells, &mut post, &mut pass, Turn::Idle));
+    assert!(rt; is_next(&mut cells, &mut post, &mut pass, Turn::Answered(1)));
+    assert!(rt; is_next(&mut cells, &mut post, &mut pass, failed));
+    assert!(rt; is_next(&mut cells, &mut post, &mut pass, Turn::Answered(1)));
+    assert!(rt; is_next(&mut cells, &mut post, &mut pass, Turn::Closed));
     assert_eq!(rt; pass.second, 2000);
     assert_eq!(rt;
         (

@@ -1,4 +1,4 @@
-use Rattle.std.proofs.Common.{◌∙◌, [], ◌∷◌, List, ℕ, refl, ap}
+use Rattle.std.proofs.Common.{◌∙◌, [], ◌∷◌, List, ℕ, ap}
 use Rattle.run_lines.specs.Refusals.{host_line}
 use Rattle.run_lines.proofs.Sayings.{loans_both, said_later, told_as}
 use Rattle.nfs_server.specs.Course.{stop_of}

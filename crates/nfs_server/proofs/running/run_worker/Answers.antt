@@ -14,7 +14,7 @@ returns g c =
     record {
       rest = c.work-ended.ensures.rest;
       ran = record {
-        did = record { heard = w.heard; own = owned 0 (history w.holds); replies = w.replies };
+        did = record { desk = c.args.cells.now.desk; then = c.work-ended.new.cells.desk; heard = w.heard; own = owned 0 (history w.holds); replies = w.replies };
         back = c.work-ended.new.post;
         holds = w.holds;
         rigs = gave.rigs;
@@ -23,7 +23,8 @@ returns g c =
         faults = gave.faults;
         lines = gave.lines;
         grows = w.grows;
-        works = subst (λ (n : ℕ). Works 1 n (worker_of l c.args.post.link) (worker_of l c.work-ended.new.post.link) w.heard (owned 0 (history w.holds)) w.replies) c.new-pass.ensures.number w.works;
+        began = refl;
+        works = subst (λ (n : ℕ). Works 1 n c.args.cells.now.desk c.work-ended.new.cells.desk (worker_of l c.args.post.link) (worker_of l c.work-ended.new.post.link) w.heard (owned 0 (history w.holds)) w.replies) c.new-pass.ensures.number w.works;
         shared = refl;
         ends = w.ends;
         received = received;

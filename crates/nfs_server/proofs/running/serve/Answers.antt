@@ -1,16 +1,15 @@
 use Rattle.std.proofs.Common.{arith, ◌≡◌, ◌∙◌, ◌<◌, ℕ, [], ◌∷◌, List, Err, Option, Some, map, string_bytes, refl, sym, ap, inl, subst}
 use Rattle.stable.specs.Counts.{Rose}
 use Rattle.rig.specs.Links.{gains}
-use Rattle.nfs_server.specs.Asking.{asked_of, options_read}
+use Rattle.nfs_server.specs.Asking.{asked_of}
 use Rattle.nfs_server.specs.Course.{Usage, NoRig}
 use Rattle.nfs_server.specs.Kept.{FoundAs}
 use Rattle.run_lines.specs.Refusals.{host_line}
 use Rattle.nfs_server.specs.Run.{options_of}
-use Rattle.nfs_server.specs.Words.{Asked, Options, asked_by}
+use Rattle.nfs_server.specs.Words.{Asked, asked_by}
 use Rattle.nfs_server.proofs.Understanding.{understood_rig}
 use Rattle.run_lines.proofs.Loans.{loan_none, loan_one, loan_within}
 use Rattle.run_lines.proofs.Statuses.{host_failed, host_not}
-use Rattle.nfs_server.proofs.Statuses.{rig-not-64}
 use Rattle.run_lines.proofs.Sayings.{said_later, said_before, told_as}
 use Rattle.nfs_server.proofs.running.serve.Goals as goal
 

@@ -1,4 +1,4 @@
-use Rattle.std.proofs.Common.{arith, ◌≡◌, ◌∙◌, ℕ, false, sym, ap, subst}
+use Rattle.std.proofs.Common.{arith, ◌∙◌, ℕ, false, sym, ap, subst}
 use Rattle.stable.specs.Counts.{RoseBy}
 use Rattle.stable.specs.declared.snapshot.Snapshot.{Snapshot}
 use Rattle.nfs_worker.specs.Turns.{datagrams}
@@ -35,6 +35,7 @@ returns g c =
         returned = told.same.posts.back ∙ asked.posts.back ∙ ran.returned;
         faults = told.same.faults ∙ asked.faults ∙ ran.faults;
         grows = grew_after s g.met.S.Stable.clocked ran.holds ran.grows stopped.grows;
+        began = ran.began;
         works = ran.works;
         shared = ran.shared;
         ends = ran.ends;

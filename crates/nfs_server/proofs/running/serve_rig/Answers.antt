@@ -1,5 +1,4 @@
 use Rattle.std.proofs.Common.{arith, ◌≡◌, ◌≤◌, ◌^◌, ◌∙◌, ℕ, [], ◌∷◌, List, refl, sym, ap, subst}
-use Rattle.stable.specs.Counts.{RoseBy, Rose}
 use Rattle.nvram_map.specs.Overlay.{NoEntry}
 use Rattle.presto_recover.proofs.Shown.{same_overlay}
 use Rattle.presto_unit.specs.Parts.{rig_of}

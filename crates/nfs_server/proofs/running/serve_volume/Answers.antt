@@ -1,4 +1,4 @@
-use Rattle.std.proofs.Common.{arith, ◌≡◌, ◌∙◌, ℕ, [], ◌∷◌, List, Bool, false, refl, sym, ap, subst}
+use Rattle.std.proofs.Common.{arith, ◌∙◌, ℕ, [], ◌∷◌, List, Bool, refl, sym, ap, subst}
 use Rattle.stable.specs.Counts.{RoseBy, Rose}
 use Rattle.stable.proofs.Clocked.{ends}
 use Rattle.nfs_worker.proofs.Accounts.{grew_opened, grew_before}
@@ -7,9 +7,9 @@ use Rattle.run_lines.proofs.Sayings.{loans_both, said_later, told_as}
 use Rattle.run_lines.proofs.Statuses.{volume_not}
 use Rattle.nfs_server.specs.Course.{NoVolume}
 use Rattle.nfs_server.specs.Run.{changes_in, RunsAs}
-use Rattle.nfs_server.proofs.Stops.{name_stays, refused_as, opens_as, each_pair}
+use Rattle.nfs_server.proofs.Stops.{name_stays, root_stays, refused_as, opens_as, each_pair}
 use Rattle.nfs_server.proofs.running.serve_volume.Goals as goal
-use Rattle.volume.specs.Mounted.{store_of, name_of}
+use Rattle.volume.specs.Mounted.{store_of, name_of, root_of}
 
 pub returns-in-Err : goal.returns-in-Err
 returns-in-Err g c =
@@ -78,9 +78,10 @@ returns-in-Ok g c =
           host = λ is. let rose : Rose (g.H.Host.host_faults c.now-second.new.self) (g.H.Host.host_faults c.serve_open.new.host) = run.host is in omega (arith, rose, first);
           later = omega (arith, first, then);
         };
-        opens = opens_as s c.args.options.down c.args.recovery opening.snapshot.made.state (omega (arith, later)) (omega (arith, io)) open_run.course
+        opens = opens_as s c.args.options.down c.args.recovery opening.snapshot.made.state (omega (arith, later)) (omega (arith, io)) (root_of volume) open_run.course
             (λ told. (opening.opened told).repaired.weak)
             (λ told. (opening.opened told).titled.name_is ∙ name_stays (s.image c.args.store) (s.image (store_of volume)) (ends g.met.S.Stable.clocked opening.crash told))
-            (subst (λ (was : Bool). RunsAs s c.args.options.down was c.args.recovery (store_of volume) back (name_of volume) open_run.course) opening.sound open_run.runs);
+            (λ told. (opening.opened told).titled.root_is ∙ root_stays (s.image c.args.store) (s.image (store_of volume)) (opening.opened told).repaired.weak (ends g.met.S.Stable.clocked opening.crash told))
+            (subst (λ (was : Bool). RunsAs s c.args.options.down was c.args.recovery (store_of volume) back (name_of volume) (root_of volume) open_run.course) opening.sound open_run.runs);
       };
     }

@@ -1,4 +1,4 @@
-use Rattle.std.proofs.Common.{[], ◌∷◌, List, ℕ, Bool, false, sym, ap, ◌∙◌}
+use Rattle.std.proofs.Common.{[], ◌∷◌, List, ℕ, Bool, false, ap, ◌∙◌}
 use Rattle.nfs_server.specs.Course.{fails, last_lines, stop_of}
 use Rattle.run_lines.proofs.Sayings.{told_both, told_as}
 use Rattle.nfs_server.proofs.telling.close.Goals as goal

@@ -1,4 +1,4 @@
-use Rattle.std.proofs.Common.{rules, subst, Option, None, ap, ◌∙◌}
+use Rattle.std.proofs.Common.{rules, [], ◌∷◌, subst, Option, None, ap, ◌∙◌}
 use Rattle.files_model.specs.declared.call.Call.TheVariants.{Getattr}
 use Rattle.files_model.specs.declared.attributes.Attr.{Attr}
 use Rattle.files_model.specs.declared.reply.Reply.TheVariants as reply
@@ -22,7 +22,7 @@ returns-in-Ok-Some-clause-applied g c =
           (ap (λ (a : Attr). reply.Attr a) c.attributes_of.ensures ∙ getattr_found old strong c.args.file c.args.cred.now c.args.now c.in-Ok-Some.found found) (getattr-idle (view old) c.args.file);
       form = tt;
       cause = search rules;
-      crash = weaker c.in-Ok-Some.ensures.looked.crash (λ i left is. torn_same (Getattr c.args.file) c.args.cred.now c.args.now old i is);
+      crash = weaker c.in-Ok-Some.ensures.looked.crash (λ i left is strong. torn_same ((Getattr c.args.file, c.args.cred.now) ∷ []) c.args.now old i is strong.weak);
     }
 
 pub returns-in-Ok-None-clause-applied : goal.returns-in-Ok-None-clause-applied
@@ -36,5 +36,5 @@ returns-in-Ok-None-clause-applied g c =
           (getattr_stale old strong c.args.file c.args.cred.now c.args.now found);
       form = tt;
       cause = search rules;
-      crash = weaker c.in-Ok-None.ensures.looked.crash (λ i left is. torn_same (Getattr c.args.file) c.args.cred.now c.args.now old i is);
+      crash = weaker c.in-Ok-None.ensures.looked.crash (λ i left is strong. torn_same ((Getattr c.args.file, c.args.cred.now) ∷ []) c.args.now old i is strong.weak);
     }

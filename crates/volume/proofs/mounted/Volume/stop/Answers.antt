@@ -5,7 +5,7 @@ use Rattle.volume.proofs.mounted.Volume.stop.Goals as goal
 pub write_chain-written-requires-clause-idle : goal.write_chain-written-requires-clause-idle
 write_chain-written-requires-clause-idle g c told =
     let rest = c.requires.rest in
-    idle_of (g.S.Stable.image c.args.self.store) _ _ (rest.weak told) (rest.sets told c.if-hurt.false)
+    idle_of (g.S.Stable.image c.args.self.store) _ _ (rest.weak told) (rest.are_sets told c.if-hurt.false)
 
 pub returns-clause-crash : goal.returns-clause-crash
 returns-clause-crash g c =

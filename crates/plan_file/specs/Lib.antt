@@ -1,0 +1,11 @@
+pub mod Rewrite
+pub mod Draft
+pub mod Found
+pub mod Free
+pub mod Accepted
+pub mod Places
+pub mod Layout
+pub mod Contents
+pub mod Grown
+pub mod Started
+pub mod Planned

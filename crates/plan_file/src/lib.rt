@@ -1,0 +1,20 @@
+//! Plans of calls on one file: batches of writes, which may grow it.
+#![tactic(auto)]
+
+mod accepted;
+mod batch_plan;
+mod decide;
+mod draft;
+mod filling;
+mod inode;
+mod laws;
+mod layout;
+mod places;
+mod started;
+
+pub use batch_plan::{PlanFault, Planned, plan_writes};
+pub use laws::batch_is_planned;
+pub use places::{Places, file_places};
+
+#[cfg(test)]
+mod tests;

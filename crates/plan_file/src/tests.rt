@@ -1,0 +1,167 @@
+//! Batches on a small volume over a store in memory.
+
+ghost use Rattle.std.specs.Prelude.{◌≡◌, ◌≤◌, true, length};
+ghost use Rattle.v7_sets.specs.Sets.{AreSpare};
+
+use crate::batch_plan::{Planned, plan_writes};
+use files_model::{Cred, Data, FileId, Gids, Reply, Stat, WriteItem};
+use index_sets::FreeSet;
+use stable::Stable;
+use std::alloc::Global;
+use std::test::Fail;
+use store_mem::Memory;
+use v7_layout::{Inode, Record, Super};
+use v7_sets::Sets;
+
+const FILE: FileId = FileId {
+    ino: 3,
+    generation: 1,
+};
+
+// Whether blocks are past the super-block and within a store.
+fn is_spare(blocks: &FreeSet, sectors: u32) -> bool
+    ensures { result ≡ true → AreSpare sectors blocks.now }
+{
+    if blocks.lowest_from(sectors.min(1_048_576)).is_some() {
+        return false;
+    }
+    match blocks.lowest_from(0) {
+        Some(lowest) => lowest >= 2,
+        None => true,
+    }
+}
+
+// A volume of 64 sectors, whose data blocks begin at 4, and whose file 3 is empty.
+fn volume(alloc: Global) -> Result<Memory, Fail> {
+    let mut store = Memory::new(alloc, &[[0; 512]; 64]).map_err(|_| "memory")?;
+    let mut sector = [0; 512];
+    let mut super_block = Super::read(&sector);
+    super_block.s_isize = 4;
+    super_block.s_fsize = 64;
+    super_block.mark = 1;
+    super_block.write(&mut sector);
+    store.put(1, &sector).map_err(|_| "store")?;
+    let mut inode = Inode::read(&[0; 64]);
+    inode.mode = 0o100_644;
+    inode.nlink = 1;
+    inode.uid = 100;
+    inode.gid = 100;
+    inode.generation = 1;
+    let mut sector = [0; 512];
+    inode.write(&mut sector[128..192]);
+    store.put(2, &sector).map_err(|_| "store")?;
+    Ok(store)
+}
+
+// These blocks are free.
+fn free(alloc: Global, blocks: &[u32]) -> Result<Sets, Fail> {
+    let mut sets = Sets::new(alloc, 64, 17).map_err(|_| "memory")?;
+    for block in blocks {
+        sets.blocks.give(*block);
+    }
+    Ok(sets)
+}
+
+// A write of one byte by the owner.
+fn one_byte(alloc: Global, offset: u32) -> Result<WriteItem, Fail> {
+    Ok(WriteItem {
+        cred: Cred {
+            uid: 100,
+            gid: 100,
+            gids: Gids::copy(&[]),
+        },
+        offset,
+        bytes: Data::copy(alloc, b"X").map_err(|_| "memory")?,
+    })
+}
+
+// A batch at second 2000.
+fn plan(
+    alloc: Global,
+    store: &mut Memory,
+    sets: &mut Sets,
+    batch: &[WriteItem],
+) -> Result<Planned, Fail> {
+    if batch.len() > 16 || !is_spare(&sets.blocks, store.sectors()) {
+        return Err("no batch".into());
+    }
+    Ok(plan_writes(alloc, store, sets, FILE, batch, 2000).map_err(|_| "not planned")?)
+}
+
+#[test]
+fn the_last_byte_of_the_greatest_file_takes_two_blocks(rt: HostRuntime) -> Result<(), Fail> {
+    let alloc = rt.alloc();
+    let mut store = volume(alloc)?;
+    let mut sets = free(alloc, &[30, 10, 20])?;
+    let batch = [one_byte(alloc, 70_655)?, one_byte(alloc, 70_656)?];
+    let planned = plan(alloc, &mut store, &mut sets, &batch)?;
+    let replies = planned.replies.as_slice();
+    assert!(rt; replies.len() == 2);
+    assert!(rt;
+        matches!(&replies[0], Reply::Attr(attr) if attr.size == 70_656 && attr.mtime == 2000)
+    );
+    assert!(rt; matches!(&replies[1], Reply::Refused(Stat::Fbig)));
+    let puts = planned.plan.puts();
+    assert!(rt; puts.len() == 3);
+    assert!(rt; puts[0].0 == 10 && puts[1].0 == 20 && puts[2].0 == 2);
+    let data = puts[0].1;
+    let addresses = puts[1].1;
+    assert!(rt; data[510] == 0 && data[511] == b'X');
+    assert!(rt; addresses[507] == 0 && addresses[508] == 10 && addresses[509] == 0);
+    assert!(rt; sets.blocks.count() == 1 && sets.blocks.has(30));
+    Ok(())
+}
+
+#[test]
+fn one_free_block_is_too_few_for_a_block_of_addresses(rt: HostRuntime) -> Result<(), Fail> {
+    let alloc = rt.alloc();
+    let mut store = volume(alloc)?;
+    let mut sets = free(alloc, &[10])?;
+    let batch = [one_byte(alloc, 5120)?, one_byte(alloc, 5119)?];
+    let planned = plan(alloc, &mut store, &mut sets, &batch)?;
+    let replies = planned.replies.as_slice();
+    assert!(rt; replies.len() == 2);
+    assert!(rt; matches!(&replies[0], Reply::Refused(Stat::Nospc)));
+    assert!(rt; matches!(&replies[1], Reply::Attr(attr) if attr.size == 5120));
+    assert!(rt; planned.plan.puts().len() == 2);
+    Ok(())
+}
+
+// A write of 8,192 bytes by the owner.
+fn most_bytes(alloc: Global, offset: u32) -> Result<WriteItem, Fail> {
+    let item = one_byte(alloc, offset)?;
+    let bytes = Data::copy(alloc, &[b'Y'; 8192]).map_err(|_| "memory")?;
+    Ok(WriteItem { bytes, ..item })
+}
+
+#[test]
+fn three_writes_are_one_plan_and_the_last_one_wins(rt: HostRuntime) -> Result<(), Fail> {
+    let alloc = rt.alloc();
+    let mut store = volume(alloc)?;
+    let mut sets = Sets::new(alloc, 64, 17).map_err(|_| "memory")?;
+    for block in 10..36 {
+        sets.blocks.give(block);
+    }
+    let batch = [
+        most_bytes(alloc, 0)?,
+        most_bytes(alloc, 4096)?,
+        one_byte(alloc, 0)?,
+    ];
+    let planned = plan(alloc, &mut store, &mut sets, &batch)?;
+    let replies = planned.replies.as_slice();
+    assert!(rt; replies.len() == 3);
+    assert!(rt;
+        matches!(&replies[0], Reply::Attr(attr) if attr.size == 8192 && attr.mtime == 2000)
+    );
+    assert!(rt; matches!(&replies[1], Reply::Attr(attr) if attr.size == 12288));
+    assert!(rt;
+        matches!(&replies[2], Reply::Attr(attr) if attr.size == 12288 && attr.mtime == 2000)
+    );
+    let puts = planned.plan.puts();
+    assert!(rt; puts.len() == 26);
+    assert!(rt; puts[0].0 == 10 && puts[23].0 == 33 && puts[24].0 == 34 && puts[25].0 == 2);
+    let first = puts[0].1;
+    assert!(rt; first[0] == b'X' && first[1] == b'Y');
+    assert!(rt; sets.blocks.count() == 1 && sets.blocks.has(35));
+    Ok(())
+}

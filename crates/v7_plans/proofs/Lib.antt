@@ -1,0 +1,7 @@
+pub mod Local
+pub mod InodePut
+pub mod Quieting
+pub mod Muting
+pub mod CutQuiet
+pub mod SettingPlan
+pub mod ShrinkPlan

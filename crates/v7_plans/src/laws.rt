@@ -1,0 +1,45 @@
+// What plans that change one node leave of an image.
+
+ghost use Rattle.std.specs.Prelude.{◌≡◌, ◌≢◌, ℕ, false, List, [], ◌∷◌, ◌++◌, length};
+ghost use Rattle.files_model.specs.Files.{Node, clipped};
+ghost use Rattle.files_model.specs.Torn.{Asked};
+ghost use Rattle.stable.specs.Puts.{put_all};
+ghost use Rattle.stable.specs.Store.{Image};
+ghost use Rattle.v7_layout.specs.declared.inode.Inode.{Inode};
+ghost use Rattle.v7_map.specs.Frame.{Place, Body, head_of, is_directory, address_of, frame};
+ghost use Rattle.v7_map.specs.Image.{sector_at, inode_sector};
+ghost use Rattle.v7_map.specs.Plans.{IsPlanOf};
+ghost use Rattle.v7_map.specs.View.{view};
+ghost use Rattle.v7_map.specs.Weak.{IsWeak, IsStrong};
+ghost use Rattle.v7_plans.specs.Quiet.{IsQuiet, AllQuiet};
+ghost use Rattle.v7_plans.specs.Setting.{IsSetting, SetsInode, ShrinksInode, put_inode};
+
+/// A call that changes one node alone, by one put of its inode: attributes, a size that shrinks and drops blocks of the inode's own (and a block of
+/// addresses that keeps none), or one that grows. Afterwards the node's blocks are those that the inode gives, and all others stand where they did.
+pub fn setting_is_planned()
+    ensures planned { (image : Image) (asked : Asked) (now i : ℕ) (n m : Node) (v : Inode) (b : List ℕ)
+        → IsStrong (frame image) → IsSetting (view image) asked now i n m → SetsInode image i v m b → IsPlanOf image (asked ∷ []) now ((inode_sector i, b) ∷ []) }
+    ensures own_blocks { (image : Image) (asked : Asked) (now i : ℕ) (n m : Node) (v : Inode) (b : List ℕ)
+        → IsStrong (frame image) → IsSetting (view image) asked now i n m → SetsInode image i v m b → (p : Place) → (frame (put_inode image i b)).address i p ≡ address_of image (head_of v) p }
+    ensures other_blocks { (image : Image) (asked : Asked) (now i : ℕ) (n m : Node) (v : Inode) (b : List ℕ)
+        → IsStrong (frame image) → IsSetting (view image) asked now i n m → SetsInode image i v m b → (j : ℕ) → j ≢ i → (p : Place) → (frame (put_inode image i b)).address j p ≡ (frame image).address j p }
+{}
+
+/// A size that shrinks where the block of addresses keeps some: the inode, and then that block, without the blocks past the size.
+pub fn shrinking_is_planned()
+    ensures { (image : Image) (asked : Asked) (now i : ℕ) (n m : Node) (v : Inode) (b : List ℕ) (inner : List (ℕ × List ℕ))
+        → IsStrong (frame image) → IsSetting (view image) asked now i n m → ShrinksInode image i v m b inner → IsPlanOf image (asked ∷ []) now ((inode_sector i, b) ∷ inner) }
+{}
+
+/// A put of a held sector of a file that changes nothing below its size, as one that puts zeros past it, doesn't show. So a size may grow by it and
+/// one put of the inode.
+pub fn zeros_past_the_size_are_quiet()
+    ensures { (image : Image) (i k a : ℕ) (bytes : List ℕ) → IsWeak (frame image) → is_directory ((frame image).head i) ≡ false → (frame image).address i (Body k) ≡ a → a ≢ 0
+        → clipped ((frame image).head i).size k bytes ≡ clipped ((frame image).head i).size k (sector_at image a) → length bytes ≡ 512 → IsQuiet image (a, bytes) }
+{}
+
+/// Puts that don't show may come before any plan that is built on the image after them.
+pub fn quiet_puts_may_come_first()
+    ensures { (image : Image) (calls : List Asked) (now : ℕ) (first puts : List (ℕ × List ℕ))
+        → AllQuiet first image → IsWeak (frame image) → IsPlanOf (put_all first image) calls now puts → IsPlanOf image calls now (first ++ puts) }
+{}

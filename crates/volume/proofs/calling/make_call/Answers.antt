@@ -1,0 +1,12 @@
+use Rattle.volume.proofs.Counting.{cost_looked}
+use Rattle.volume.proofs.calling.make_call.Goals as goal
+
+pub returns-in-Getattr-clause-snapshot : goal.returns-in-Getattr-clause-snapshot
+returns-in-Getattr-clause-snapshot g c =
+    let looked = c.getattr.ensures.looked in
+    cost_looked g.S.Stable g.met.S.Stable.counted c.args.store.now c.getattr.new.store _ _ looked.later looked.snapshot
+
+pub returns-in-Read-clause-snapshot : goal.returns-in-Read-clause-snapshot
+returns-in-Read-clause-snapshot g c =
+    let looked = c.read.ensures.looked in
+    cost_looked g.S.Stable g.met.S.Stable.counted c.args.store.now c.read.new.store _ _ looked.later looked.snapshot

@@ -1,0 +1,26 @@
+-- How many sectors calls and batches put.
+use Rattle.std.specs.Prelude.{◌≡◌, ℕ, ◌+◌, Bool, false, [], ◌∷◌}
+use Rattle.files_model.specs.declared.call.Call.{Call}
+use Rattle.files_model.specs.declared.call.Call.TheVariants as call
+use Rattle.files_model.specs.declared.credential.Cred.{Cred}
+use Rattle.files_model.specs.Batch.{cost}
+use Rattle.files_model.specs.Files.{Files}
+use Rattle.plan_file.specs.Planned.{plan_puts}
+use Rattle.stable.specs.States.{SomePuts}
+use Rattle.stable.specs.declared.store.Stable.{Ghosts}
+use Rattle.volume.specs.Mends.{mend_puts}
+
+-- how many sectors a call puts at most, whatever the files
+abbrev pub most_puts : Call → ℕ
+most_puts (call.Write file offset bytes) = plan_puts
+most_puts c = 0
+
+-- how many it may put on these files
+abbrev pub call_cost : Files → Call → Cred → ℕ → ℕ
+call_cost files (call.Write file offset bytes) cred now = cost files file (record { cred = cred; offset = offset; bytes = bytes } ∷ []) now
+call_cost files c cred now = 0
+
+-- At most so many puts were made besides those of a mend; and where contents are told and nothing was hurt, at most as many as it costs. `s` is what the store's type tells.
+pub record CostsAtMost {S : Type 0} (s : Ghosts S) (old new : S) (was : Bool) (most price : ℕ) : Type 0 where
+  pub puts : SomePuts (mend_puts was + most) (s.faults old) (s.faults new) (s.snapshot_of old) (s.snapshot_of new)
+  pub cheap : s.tells → was ≡ false → SomePuts price (s.faults old) (s.faults new) (s.snapshot_of old) (s.snapshot_of new)

@@ -1,0 +1,7 @@
+mod Boards
+mod Downs
+mod Founds
+mod Keeping
+mod Lent
+mod Repairs
+mod Tellings

@@ -1,0 +1,10 @@
+pub mod Asking
+pub mod Checked
+pub mod Course
+pub mod Kept
+pub mod Lines
+pub mod Made
+pub mod Recovered
+pub mod Run
+pub mod Told
+pub mod Words
