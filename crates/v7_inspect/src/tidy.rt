@@ -1,6 +1,6 @@
 // Whether there is nothing to mend in an inode.
 
-ghost use Rattle.std.specs.Prelude.{◌≡◌, ◌≢◌, true, get_or, ◌||◌, ◌&&◌, ◌==◌};
+ghost use Rattle.std.specs.Prelude.{◌≡◌, get_or, ◌||◌, ◌&&◌, ◌==◌};
 ghost use Rattle.v7_damage.specs.Stored.{body_at};
 ghost use Rattle.v7_inspect.specs.Tidy.{none_past, some_listed, is_tidy};
 
@@ -56,14 +56,9 @@ fn is_tidy(size: u32, places: &[u32; 140]) -> bool
     )
 }
 
-/// Whether there is nothing to mend in an inode whose blocks stand at these places, that so many slots name.
-pub(crate) fn is_strong(inode: &Inode, places: &[u32; 140], named: bool, count: u16) -> bool
-    ensures free { inode.now.mode ≡ 0 → result ≡ true }
-    ensures used { inode.now.mode ≢ 0 → result ≡ ((inode.now.nlink == count) && (named && is_tidy (body_at places.now) (get_or places.now 10 0) inode.now.size)) }
+/// Whether there is nothing to mend in a named inode whose blocks stand at these places, that so many slots name.
+pub(crate) fn is_strong(inode: &Inode, places: &[u32; 140], count: u16) -> bool
+    ensures { result ≡ ((inode.now.nlink == count) && is_tidy (body_at places.now) (get_or places.now 10 0) inode.now.size) }
 {
-    if inode.mode == 0 {
-        return true;
-    }
-    let counted = inode.nlink == count;
-    both(counted, both(named, is_tidy(inode.size, places)))
+    both(inode.nlink == count, is_tidy(inode.size, places))
 }
