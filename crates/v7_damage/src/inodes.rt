@@ -171,16 +171,7 @@ pub(crate) fn test_inodes<S: Stable>(
 {
     let mut reader = InodeReader::new();
     for ino in 1..inodes + 1 {
-        match test_next(
-            store,
-            &mut reader,
-            ino,
-            isize,
-            fsize,
-            seen,
-            types,
-            bodies,
-        ) {
+        match test_next(store, &mut reader, ino, isize, fsize, seen, types, bodies) {
             Ok(()) => {}
             Err(fault) => return Err(fault),
         }

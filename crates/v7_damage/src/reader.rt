@@ -22,7 +22,6 @@ fn mode_in(sector: &[u8; 512], ino: u32) -> u16
     low + 256 * high
 }
 
-
 /// Reads inodes, and keeps the sector that it read last: inodes in rising number take one read for eight of them. Nothing may be put
 /// between two of its reads.
 #[derive(Clone, Copy)]

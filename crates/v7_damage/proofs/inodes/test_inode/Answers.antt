@@ -1,11 +1,11 @@
-use Rattle.std.proofs.Common.{rules, ◌≡◌, ℕ, [], ◌∷◌, true, false, sym, ap, subst, ◌∙◌}
+use Rattle.std.proofs.Common.{rules, ◌≡◌, ℕ, ◌∷◌, true, false, sym, ap, subst, ◌∙◌}
 use Rattle.std.specs.Option.{option_map}
 use Rattle.v7_map.specs.Damage.{Kind, Length, passes, has_kind, has_length}
 use Rattle.v7_map.specs.Frame.{Head}
 use Rattle.v7_damage.specs.Marks.{AreSeen}
 use Rattle.v7_damage.specs.Tests.{first_failing, kind_of_test, place_tests}
-use Rattle.v7_damage.proofs.Failing.{fails_here, passes_on, none_fails}
-use Rattle.v7_damage.proofs.InodeTests.{tests_used, tests_root, tests_free, root_fails, used_by, free_by, type_by, earlier_next, seen_free}
+use Rattle.v7_damage.proofs.Failing.{fails_here, passes_on}
+use Rattle.v7_damage.proofs.InodeTests.{tests_used, earlier_next}
 use Rattle.v7_damage.proofs.inodes.test_inode.Goals as goal
 
 pub returns-then-not-has_kind-clause-tested : goal.returns-then-not-has_kind-clause-tested

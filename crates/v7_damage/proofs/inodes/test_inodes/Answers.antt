@@ -1,18 +1,15 @@
-use Rattle.std.proofs.Common.{rules, arith, ◌≡◌, ◌<◌, ◌≤◌, ◌/◌, ℕ, ◌+◌, ◌-◌, ◌++◌, [], ◌∷◌, true, Some, None, get_or, refl, sym, ap, subst, ◌∙◌, ⊎_elim}
-use Rattle.std.specs.Option.{option_map}
+use Rattle.std.proofs.Common.{rules, arith, ◌≡◌, ◌<◌, ◌≤◌, ℕ, ◌+◌, ◌-◌, ◌++◌, [], ◌∷◌, None, get_or, refl, sym, ap, subst, ◌∙◌, ⊎_elim}
 use Rattle.std.proofs.lemmas.Bool.{cases_lt}
 use Rattle.std.proofs.lemmas.List.{get_or_past}
 use Rattle.stable.specs.Store.{Image}
 use Rattle.stable.proofs.Looking.{no_look, looks_again}
-use Rattle.v7_map.specs.Image.{is_inode, inode_at, inode_sector}
-use Rattle.v7_map.specs.Frame.{Frame, Head, frame, head_of, address_of}
-use Rattle.v7_map.specs.Damage.{place_at}
+use Rattle.v7_map.specs.Image.{inode_sector}
+use Rattle.v7_map.specs.Frame.{Frame, frame}
 use Rattle.v7_damage.specs.Marks.{AreSeen}
 use Rattle.v7_damage.specs.Stored.{AreBodies, Keeps}
-use Rattle.v7_damage.specs.Tests.{HasNumbers, IsFaultTold, IsTold, first_failing, earlier_blocks, tests_of, tests_of_inodes}
-use Rattle.v7_damage.proofs.Failing.{first-append_none, told-none, none_fails}
+use Rattle.v7_damage.specs.Tests.{HasNumbers, IsFaultTold, first_failing, earlier_blocks, tests_of, tests_of_inodes}
+use Rattle.v7_damage.proofs.Failing.{first-append_none, none_fails}
 use Rattle.v7_damage.proofs.InodeTests.{earlier_start, inodes_more, inodes_end}
-use Rattle.v7_damage.proofs.BodyPlaces.{body-blocks}
 use Rattle.v7_damage.proofs.FrameInodes.{types_more, no_type, past_numbers, bodies_first, tables_first}
 use Rattle.v7_damage.proofs.DirectoryTests.{told_first}
 use Rattle.v7_damage.proofs.inodes.test_inodes.Goals as goal

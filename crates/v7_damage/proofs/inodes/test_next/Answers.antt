@@ -1,4 +1,4 @@
-use Rattle.std.proofs.Common.{rules, arith, ◌≡◌, ◌/◌, ◌<◌, ◌≤◌, ℕ, ◌+◌, ◌++◌, [], ◌∷◌, true, Some, None, get_or, sym, ap, subst, ◌∙◌}
+use Rattle.std.proofs.Common.{rules, arith, ◌≡◌, ◌/◌, ℕ, ◌++◌, [], ◌∷◌, true, Some, sym, ap, subst, ◌∙◌}
 use Rattle.std.specs.Option.{option_map}
 use Rattle.stable.specs.Store.{Image}
 use Rattle.v7_layout.specs.declared.inode.Inode.{Inode}
@@ -6,9 +6,8 @@ use Rattle.v7_map.specs.Image.{is_inode, inode_at, inode_sector}
 use Rattle.v7_map.specs.Frame.{Frame, Head, frame, head_of, address_of}
 use Rattle.v7_map.specs.Damage.{place_at}
 use Rattle.v7_damage.specs.declared.damage.Damage.TheVariants as kind
-use Rattle.v7_damage.specs.Marks.{AreSeen}
 use Rattle.v7_damage.specs.Stored.{Keeps}
-use Rattle.v7_damage.specs.Tests.{HasInode, HasNumbers, first_failing, kind_of_test, tests_of, told}
+use Rattle.v7_damage.specs.Tests.{HasInode, first_failing, kind_of_test, tests_of}
 use Rattle.v7_damage.proofs.BodyPlaces.{body-blocks}
 use Rattle.v7_damage.proofs.Failing.{told-none}
 use Rattle.v7_damage.proofs.FrameInodes.{has_inode, is_numbered, tables_more, bodies_more}
