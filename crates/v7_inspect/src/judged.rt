@@ -73,7 +73,7 @@ fn judge_inode<S: Stable>(
     })
 }
 
-// Judges all inodes, in one pass over the i-list. Nothing is changed.
+// Judges all inodes, in rising number. Nothing is changed.
 fn sum_inodes<S: Stable>(
     store: &mut S,
     known: &Undamaged,
@@ -109,8 +109,8 @@ pub struct Judged {
     pub needed: Marks,
 }
 
-/// Judges the inodes of a volume of which all this is known, in one pass over the i-list that reads each indirect block once. `Damaged` doesn't
-/// come. Nothing is changed.
+/// Judges the inodes of a volume of which all this is known, in one pass that reads those that a slot names, each with its indirect block once.
+/// `Damaged` doesn't come. Nothing is changed.
 pub fn judge_inodes<S: Stable>(
     alloc: Global,
     store: &mut S,
