@@ -21,10 +21,18 @@ use Rattle.v7_map.proofs.Puts.{put_all-below}
 use Rattle.v7_map.proofs.Standing.{node-is}
 use Rattle.v7_map.proofs.Walks.{and_both}
 use Rattle.v7_sets.specs.Sets.{IsFreeNumber, AreSetsOf}
-use Rattle.plan_file.specs.Free.{AreFree}
+use Rattle.plan_file.specs.Free.{AreFree, AreSpare}
 
 pub free-of : (image : Image) (blocks inodes : List Bool) → AreSetsOf image blocks inodes → AreFree (frame image) blocks
 free-of image blocks inodes are = record { free = are.free; each = are.all_free }
+
+-- the free blocks of an image are ones that a store of its size can have
+pub spare-of : (image : Image) (sectors : ℕ) (blocks inodes : List Bool) → IsStrong (frame image) → length image ≡ sectors → AreSetsOf image blocks inodes → AreSpare sectors blocks
+unfolding frame
+spare-of image sectors blocks inodes strong long are a h =
+    let free = are.free a h in
+    let low = free.low in let high = free.high in
+    let three = strong.weak.sizes.low in let within = strong.weak.sizes.within in let huge = strong.weak.sizes.not_huge in (omega arith, omega arith)
 
 -- an inode is used where there is a node
 used-node : (image : Image) → IsStrong (frame image) → (i : ℕ) → is_inode image i ≡ true → ((frame image).head i).is_used ≡ is_some (get (view image).nodes i)
