@@ -5,3 +5,4 @@ pub mod Muting
 pub mod CutQuiet
 pub mod SettingPlan
 pub mod ShrinkPlan
+pub mod Resized
