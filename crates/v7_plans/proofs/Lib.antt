@@ -6,3 +6,4 @@ pub mod CutQuiet
 pub mod SettingPlan
 pub mod ShrinkPlan
 pub mod Resized
+pub mod AddressPut
