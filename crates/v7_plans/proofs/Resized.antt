@@ -19,8 +19,8 @@ use Rattle.v7_map.specs.View.{node_of, node_at, body_of, body_at, held, kind_of}
 use Rattle.v7_map.specs.Weak.{IsStrong, IsWeak, IsGood}
 use Rattle.v7_map.proofs.Frames.{no_slots}
 use Rattle.v7_plans.specs.Placed.{IsMine, IsPlaced}
-use Rattle.v7_plans.specs.Resizing.{IsResized, StoresNode, KeepsPlaces, IsCleanTo}
-use Rattle.v7_plans.specs.Setting.{SetsInode}
+use Rattle.v7_plans.specs.Resizing.{IsResized, StoresNode, KeepsBlocks, IsCut, IsCleanTo}
+use Rattle.v7_plans.specs.Setting.{SetsInode, ShrinksTo}
 use Rattle.v7_plans.proofs.Local.{held-mine}
 
 -- a directory of the records is a directory of the files, and a link a link
@@ -35,7 +35,7 @@ directory_kind type = by_test (eqb type 4) (eqb type 10)
 link_kind : (type : ℕ) → type ≡ 10 → permission.is_link (kind_of type) ≡ true
 link_kind type e = ap (λ t. permission.is_link (kind_of t)) e
 
-module _ (image : Image) (i : ℕ) (strong : IsStrong (frame image)) (used : ((frame image).head i).is_used ≡ true) (m : Node) (v : Inode) (re : IsResized (node_at image i) m) (stores : StoresNode image i m v) (keeps : KeepsPlaces image i v) where
+module _ (image : Image) (i : ℕ) (strong : IsStrong (frame image)) (used : ((frame image).head i).is_used ≡ true) (m : Node) (v : Inode) (re : IsResized (node_at image i) m) (stores : StoresNode image i m v) (keeps : KeepsBlocks image i v) where
   abbrev old : Inode
   old = inode_at image i
 
@@ -65,7 +65,7 @@ module _ (image : Image) (i : ℕ) (strong : IsStrong (frame image)) (used : ((f
 
   kept : (p : Place) → address_of image (head_of v) p ≢ 0 → address_of image (head_of v) p ≡ f.address i p
   unfolding frame address_of
-  kept (Body k) nz = ⊎_elim (λ (lt : k < sectors_of v.size). keeps.below k lt) (λ (ge : sectors_of v.size ≤ k). absurd (nz (keeps.past k ge))) (cases_lt k (sectors_of v.size))
+  kept (Body k) nz = keeps.body k nz
   kept Single nz = keeps.single nz
   kept Double nz =
       (λ z. cond (v_used z) (stores.is z).double 0) ∙ (λ z. cond (sym used z) old.double 0)
@@ -83,9 +83,9 @@ module _ (image : Image) (i : ℕ) (strong : IsStrong (frame image)) (used : ((f
         (subst (λ s. 32 ≤ s) same d.0, ap (λ s. s % 16) (sym same) ∙ d.1);
   }
 
-  placed : IsPlaced image i (head_of v)
+  placed : IsCut image v → IsPlaced image i (head_of v)
   unfolding frame
-  placed = record {
+  placed cut = record {
     good = λ u. good_new;
     mine = λ p nz. subst (IsMine f i) (sym (kept p nz)) (held-mine f i p strong.weak (λ z. nz (kept p nz ∙ z)));
     needed = λ k dir lt z.
@@ -94,8 +94,8 @@ module _ (image : Image) (i : ℕ) (strong : IsStrong (frame image)) (used : ((f
         strong.weak.needed i k (sym same_directory ∙ dir) low (sym (keeps.below k lt) ∙ z);
     apart = λ p q nz same. (strong.weak.unshared i i p q (λ z. nz (kept p nz ∙ z)) (sym (kept p nz) ∙ same ∙ kept q (λ z. nz (same ∙ z)))).1;
     no_double = ⊎_elim (λ (z : address_of image (head_of v) Double ≡ 0). z) (λ (nz : address_of image (head_of v) Double ≢ 0). kept Double nz ∙ strong.weak.no_double i) (cases_eq (address_of image (head_of v) Double) 0);
-    past = keeps.past;
-    single = keeps.single_needed;
+    past = cut.past;
+    single = cut.single_needed;
   }
 
   same_slots : slots_of image (head_of v) ≡ f.slots i
@@ -165,13 +165,27 @@ module _ (image : Image) (i : ℕ) (strong : IsStrong (frame image)) (used : ((f
         })
         ∙ sym re.same
 
-    pub resized-sets : (b : List ℕ) → PutsInode image i b v → SetsInode image i v m b
-    resized-sets b puts = record {
+    pub resized-sets : IsCut image v → (b : List ℕ) → PutsInode image i b v → SetsInode image i v m b
+    resized-sets cut b puts = record {
       puts = puts;
-      placed = placed;
+      placed = placed cut;
       used = v_used;
       same_kind = same_directory;
       same_slots = same_slots;
+      nlink = ap (λ (x : Inode). x.nlink) stores.is;
+      generation = ap (λ (x : Inode). x.generation) stores.is;
+      is = node_is;
+    }
+
+    -- of a file, where its block of addresses is cut after that
+    pub resized-shrinks : is_directory (f.head i) ≡ false → (b : List ℕ) → PutsInode image i b v → ShrinksTo image i v m b
+    resized-shrinks file b puts = record {
+      puts = puts;
+      good = good_new;
+      kept = kept;
+      used = v_used;
+      no_directory = same_directory ∙ file;
+      was_none = file;
       nlink = ap (λ (x : Inode). x.nlink) stores.is;
       generation = ap (λ (x : Inode). x.generation) stores.is;
       is = node_is;

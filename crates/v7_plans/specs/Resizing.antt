@@ -25,13 +25,17 @@ pub record StoresNode (image : Image) (i : ℕ) (m : Node) (v : Inode) : Type 0 
   pub type : v.mode / 4096 ≡ (inode_at image i).mode / 4096
   pub bits : v.mode % 4096 ≡ m.mode
 
--- The blocks of v are those of inode i below its size, and none past it; a directory keeps its own.
-pub record KeepsPlaces (image : Image) (i : ℕ) (v : Inode) : Type 0 where
-  pub below : (k : ℕ) → k < sectors_of v.size → address_of image (head_of v) (Body k) ≡ (frame image).address i (Body k)
-  pub past : (k : ℕ) → sectors_of v.size ≤ k → address_of image (head_of v) (Body k) ≡ 0
+-- The blocks of v are some of inode i, and all of those below its size; a directory keeps its own.
+pub record KeepsBlocks (image : Image) (i : ℕ) (v : Inode) : Type 0 where
+  pub body : (k : ℕ) → address_of image (head_of v) (Body k) ≢ 0 → address_of image (head_of v) (Body k) ≡ (frame image).address i (Body k)
   pub single : address_of image (head_of v) Single ≢ 0 → address_of image (head_of v) Single ≡ (frame image).address i Single
-  pub single_needed : address_of image (head_of v) Single ≢ 0 → list_any (λ k. not (address_of image (head_of v) (Body k) == 0)) (range_with_len 10 128) ≡ true
+  pub below : (k : ℕ) → k < sectors_of v.size → address_of image (head_of v) (Body k) ≡ (frame image).address i (Body k)
   pub directory : map.is_directory (head_of v) ≡ true → (v.direct ≡ (inode_at image i).direct) × (v.single ≡ (inode_at image i).single)
+
+-- v has no block past its size
+pub record IsCut (image : Image) (v : Inode) : Type 0 where
+  pub past : (k : ℕ) → sectors_of v.size ≤ k → address_of image (head_of v) (Body k) ≡ 0
+  pub single_needed : address_of image (head_of v) Single ≢ 0 → list_any (λ k. not (address_of image (head_of v) (Body k) == 0)) (range_with_len 10 128) ≡ true
 
 -- no sector of inode i has bytes other than zeros between its size and this one
 abbrev pub IsCleanTo : Image → ℕ → ℕ → Type 0

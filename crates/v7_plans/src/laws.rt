@@ -12,7 +12,7 @@ ghost use Rattle.v7_map.specs.Plans.{IsPlanOf};
 ghost use Rattle.v7_map.specs.View.{view};
 ghost use Rattle.v7_map.specs.Weak.{IsWeak, IsStrong};
 ghost use Rattle.v7_plans.specs.Quiet.{IsQuiet, AllQuiet};
-ghost use Rattle.v7_plans.specs.Setting.{IsSetting, SetsInode, ShrinksInode, put_inode};
+ghost use Rattle.v7_plans.specs.Setting.{IsSetting, SetsInode, ShrinksTo, IsCutBy, put_inode};
 
 /// A call that changes one node alone, by one put of its inode: attributes, a size that shrinks and drops blocks of the inode's own (and a block of
 /// addresses that keeps none), or one that grows. Afterwards the node's blocks are those that the inode gives, and all others stand where they did.
@@ -28,7 +28,7 @@ pub fn setting_is_planned()
 /// A size that shrinks where the block of addresses keeps some: the inode, and then that block, without the blocks past the size.
 pub fn shrinking_is_planned()
     ensures { (image : Image) (asked : Asked) (now i : ℕ) (n m : Node) (v : Inode) (b : List ℕ) (inner : List (ℕ × List ℕ))
-        → IsStrong (frame image) → IsSetting (view image) asked now i n m → ShrinksInode image i v m b inner → IsPlanOf image (asked ∷ []) now ((inode_sector i, b) ∷ inner) }
+        → IsStrong (frame image) → IsSetting (view image) asked now i n m → ShrinksTo image i v m b → IsCutBy (put_inode image i b) i v inner → IsPlanOf image (asked ∷ []) now ((inode_sector i, b) ∷ inner) }
 {}
 
 /// A put of a held sector of a file that changes nothing below its size, as one that puts zeros past it, doesn't show. So a size may grow by it and
