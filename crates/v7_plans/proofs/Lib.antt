@@ -7,3 +7,5 @@ pub mod SettingPlan
 pub mod ShrinkPlan
 pub mod Resized
 pub mod AddressPut
+pub mod Setattr
+pub mod SetPlans

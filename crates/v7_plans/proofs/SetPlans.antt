@@ -1,0 +1,165 @@
+-- The plans of an accepted SETATTR: puts that don't show and the inode; or the inode and its block of addresses.
+use Rattle.std.proofs.Common.{◌≡◌, ◌≢◌, ℕ, ◌+◌, ◌-◌, ◌*◌, ◌<◌, ◌≤◌, Bool, true, false, not, ◌==◌, List, [], ◌∷◌, ◌++◌, length, set, refl, sym, ap, subst, ◌∙◌, arith, ⊎_elim, eqb, Some, None}
+use Rattle.std.proofs.lemmas.Bool.{cases_eq, cases_lt, ne_eqb}
+use Rattle.std.specs.FinMap.{get}
+use Rattle.std.specs.List.{range_with_len, list_any}
+use Rattle.v7_layout.specs.declared.inode.Inode.{Inode}
+use Rattle.v7_layout.specs.Numbers.{field}
+use Rattle.files_model.specs.Attributes.{set_node}
+use Rattle.files_model.specs.declared.attributes.FileId.{FileId}
+use Rattle.files_model.specs.declared.attributes.Sattr.{Sattr}
+use Rattle.files_model.specs.declared.call.Call.TheVariants.{Setattr}
+use Rattle.files_model.specs.declared.credential.Cred.{Cred}
+use Rattle.files_model.specs.Files.{Node, Files, sectors_of, IsBody, live}
+use Rattle.files_model.specs.Space.{size_limit}
+use Rattle.files_model.specs.Step.{attr_of, with_node, setattr_refusal}
+use Rattle.files_model.specs.Torn.{Asked}
+use Rattle.files_model.proofs.Batches.{live-node}
+use Rattle.stable.specs.Puts.{put_all}
+use Rattle.stable.specs.Store.{Image}
+use Rattle.v7_map.specs.Frame.{Frame, Head, Place, Body, Single, Double, head_of, is_directory, address_of, frame}
+use Rattle.v7_map.specs.Image.{IsImage, inode_at, inode_sector}
+use Rattle.v7_map.specs.Plan.{PutsInode}
+use Rattle.v7_map.specs.Plans.{IsPlanOf}
+use Rattle.v7_map.specs.View.{view, node_at}
+use Rattle.v7_map.specs.Weak.{IsWeak, IsStrong}
+use Rattle.v7_map.proofs.AnyFrame.{frame-IsFrame}
+use Rattle.v7_map.proofs.Bodies.{view-IsBody}
+use Rattle.v7_map.proofs.Nodes.{StandsAs, view-node, size_of}
+use Rattle.v7_map.proofs.Used.{named_used}
+use Rattle.v7_map.proofs.Walks.{any_at, among-range}
+use Rattle.v7_plans.specs.Placed.{IsMine}
+use Rattle.v7_plans.specs.Quiet.{AllQuiet}
+use Rattle.v7_plans.specs.Resizing.{IsResized, StoresNode, KeepsBlocks, IsCut, IsCleanTo}
+use Rattle.v7_plans.specs.Setting.{IsSetting, SetsInode, ShrinksTo, IsCutBy, put_inode}
+use Rattle.v7_plans.proofs.AddressPut.{map-muted, map-address_direct, map-address_listed, map-address_past, map-address_single, map-address_double}
+use Rattle.v7_plans.proofs.Local.{held-mine}
+use Rattle.v7_plans.proofs.Quieting.{quiet-plan, quiet-frame, quiet-view}
+use Rattle.v7_plans.proofs.Resized.{resized-sets, resized-shrinks}
+use Rattle.v7_plans.proofs.SettingPlan.{setting-plan}
+use Rattle.v7_plans.proofs.Setattr.{accepted-size, set-resized, setattr-sets}
+use Rattle.v7_plans.proofs.ShrinkPlan.{shrink-plan, shrink-weak, shrink-head, shrink-address}
+
+module _ (image : Image) (strong : IsStrong (frame image)) (file : FileId) (set' : Sattr) (cred : Cred) (now : ℕ) (n : Node) (is : live (view image) file ≡ Some n)
+    (body : IsBody n.size n.sectors) (none : setattr_refusal (view image).read_only (attr_of file.ino n) set' cred ≡ None) where
+  abbrev i : ℕ
+  i = file.ino
+
+  abbrev m : Node
+  m = set_node n set' now
+
+  abbrev asked : Asked
+  asked = (Setattr file set', cred)
+
+  stands : StandsAs image file.ino n
+  stands = view-node image file.ino n (live-node (view image) file n is)
+
+  used : ((frame image).head file.ino).is_used ≡ true
+  used = named_used (frame image) strong.weak (frame-IsFrame image).directories file.ino stands.named
+
+  node_is : node_at image file.ino ≡ n
+  node_is = stands.is
+
+  low : n.size ≤ size_limit
+  low = let g = (strong.weak.good file.ino used).length in let s = size_of image file.ino n stands in omega arith
+
+  resized : IsResized (node_at image file.ino) m
+  resized = subst (λ x. IsResized x m) (sym node_is) (set-resized n set' now body low (accepted-size (view image).read_only (attr_of file.ino n) set' cred none))
+
+  setting : IsSetting (view image) asked now file.ino n m
+  setting = record { at = live-node (view image) file n is; after = setattr-sets (view image) file set' cred now n is none }
+
+  -- one put
+  set-one : (v : Inode) (b : List ℕ) → StoresNode image file.ino m v → KeepsBlocks image file.ino v → IsCut image v → IsCleanTo image file.ino v.size → PutsInode image file.ino b v
+      → IsPlanOf image (asked ∷ []) now ((inode_sector file.ino, b) ∷ [])
+  set-one v b stores keeps cut clean puts = setting-plan image asked now file.ino n m v b strong setting (resized-sets image file.ino strong used m v resized stores keeps clean cut b puts)
+
+  -- a file gets shorter, and its block of addresses keeps some
+  module _ (v : Inode) (b : List ℕ) (stores : StoresNode image file.ino m v) (keeps : KeepsBlocks image file.ino v) (clean : IsCleanTo image file.ino v.size) (puts : PutsInode image file.ino b v)
+      (no_directory : is_directory ((frame image).head file.ino) ≡ false) (a left : ℕ) (bytes : List ℕ) (long : length bytes ≡ 512)
+      (single : address_of image (head_of v) Single ≡ a) (there : a ≢ 0)
+      (direct : (k : ℕ) → k < 10 → sectors_of v.size ≤ k → address_of image (head_of v) (Body k) ≡ 0)
+      (stays : (k : ℕ) → 10 ≤ k → k < 138 → k < sectors_of v.size → field bytes (4 * (k - 10)) 4 ≡ (frame image).address file.ino (Body k))
+      (gone : (k : ℕ) → 10 ≤ k → k < 138 → sectors_of v.size ≤ k → field bytes (4 * (k - 10)) 4 ≡ 0)
+      (high : 10 ≤ left) (small : left < 138) (below : left < sectors_of v.size) (some : (frame image).address file.ino (Body left) ≢ 0) where
+    to : ShrinksTo image file.ino v m b
+    to = resized-shrinks image file.ino strong used m v resized stores keeps clean no_directory b puts
+
+    abbrev mid : Image
+    mid = put_inode image file.ino b
+
+    abbrev last : Image
+    last = set mid a bytes
+
+    weak_mid : IsWeak (frame mid)
+    weak_mid = shrink-weak image asked now file.ino n m v b strong setting to
+
+    head_mid : (frame mid).head file.ino ≡ head_of v
+    head_mid = shrink-head image asked now file.ino n m v b strong setting to
+
+    address_mid : (p : Place) → (frame mid).address file.ino p ≡ address_of image (head_of v) p
+    address_mid = shrink-address image asked now file.ino n m v b strong setting to
+
+    used_mid : ((frame mid).head file.ino).is_used ≡ true
+    used_mid = ap (λ (h : Head). h.is_used) head_mid ∙ to.used
+
+    stays_mid : (k : ℕ) → 10 ≤ k → k < 138 → k < sectors_of ((frame mid).head file.ino).size → field bytes (4 * (k - 10)) 4 ≡ (frame mid).address file.ino (Body k)
+    stays_mid k ge lt in' = let in'' : k < sectors_of v.size = subst (λ (h : Head). k < sectors_of h.size) head_mid in' in
+        stays k ge lt in'' ∙ sym (keeps.below k in'') ∙ sym (address_mid (Body k))
+
+    single_mid : (frame mid).address file.ino Single ≡ a
+    single_mid = address_mid Single ∙ single
+
+    at_direct : (k : ℕ) → k < 10 → (frame last).address file.ino (Body k) ≡ (frame mid).address file.ino (Body k)
+    at_direct = map-address_direct mid file.ino a bytes weak_mid used_mid stays_mid single_mid there
+
+    at_listed : (k : ℕ) → 10 ≤ k → k < 138 → (frame last).address file.ino (Body k) ≡ field bytes (4 * (k - 10)) 4
+    at_listed = map-address_listed mid file.ino a bytes weak_mid used_mid stays_mid single_mid there
+
+    at_past : (k : ℕ) → 138 ≤ k → (frame last).address file.ino (Body k) ≡ 0
+    at_past = map-address_past mid file.ino a bytes weak_mid used_mid stays_mid single_mid there
+
+    -- each block that is left stands where it did
+    left_mid : (p : Place) → (frame last).address file.ino p ≢ 0 → (frame last).address file.ino p ≡ (frame mid).address file.ino p
+    left_mid (Body k) nz = ⊎_elim
+        (λ (lt : k < 10). at_direct k lt)
+        (λ (ge : 10 ≤ k). ⊎_elim
+        (λ (lt : k < 138). ⊎_elim
+        (λ (in' : k < sectors_of v.size). at_listed k ge lt ∙ stays k ge lt in' ∙ sym (keeps.below k in') ∙ sym (address_mid (Body k)))
+        (λ (out : sectors_of v.size ≤ k). absurd (nz (at_listed k ge lt ∙ gone k ge lt out)))
+        (cases_lt k (sectors_of v.size)))
+        (λ (out : 138 ≤ k). absurd (nz (at_past k out)))
+        (cases_lt k 138))
+        (cases_lt k 10)
+    left_mid Single nz = map-address_single mid file.ino a bytes weak_mid used_mid stays_mid single_mid there
+    left_mid Double nz = map-address_double mid file.ino a bytes weak_mid used_mid stays_mid single_mid there
+
+    cut : IsCutBy mid file.ino v ((a, bytes) ∷ [])
+    cut = record {
+      muted = (map-muted mid file.ino a bytes weak_mid used_mid stays_mid single_mid there long
+          (λ p nz. subst (IsMine (frame mid) file.ino) (sym (left_mid p nz)) (held-mine (frame mid) file.ino p weak_mid (λ z. nz (left_mid p nz ∙ z))))
+          (λ p q nz e. (weak_mid.unshared file.ino file.ino p q (λ z. nz (left_mid p nz ∙ z)) (sym (left_mid p nz) ∙ e ∙ left_mid q (λ z. nz (e ∙ z)))).1)
+          (map-address_double mid file.ino a bytes weak_mid used_mid stays_mid single_mid there ∙ weak_mid.no_double file.ino), tt);
+      none_past = λ k out. ⊎_elim
+          (λ (lt : k < 10). at_direct k lt ∙ address_mid (Body k) ∙ direct k lt out)
+          (λ (ge : 10 ≤ k). ⊎_elim (λ (lt : k < 138). at_listed k ge lt ∙ gone k ge lt out) (λ (past : 138 ≤ k). at_past k past) (cases_lt k 138))
+          (cases_lt k 10);
+      single_needed = λ _. any_at (λ k. not ((frame last).address file.ino (Body k) == 0)) (range_with_len 10 128) left (among-range left 10 128 high (omega arith))
+          (ap not (ne_eqb ((frame last).address file.ino (Body left)) 0 (λ z. some (sym (stays left high small below) ∙ sym (at_listed left high small) ∙ z))));
+    }
+
+    pub shorter-plan : IsPlanOf image (asked ∷ []) now ((inode_sector file.ino, b) ∷ (a, bytes) ∷ [])
+    shorter-plan = shrink-plan image asked now file.ino n m v b strong setting to ((a, bytes) ∷ []) cut
+
+-- puts that don't show, and the inode
+pub setattr-plan : (image : Image) (file : FileId) (set' : Sattr) (cred : Cred) (now : ℕ) (n : Node) (first : List (ℕ × List ℕ)) (v : Inode) (b : List ℕ)
+    → IsStrong (frame image) → IsImage image → live (view image) file ≡ Some n → setattr_refusal (view image).read_only (attr_of file.ino n) set' cred ≡ None → AllQuiet first image
+    → StoresNode (put_all first image) file.ino (set_node n set' now) v → KeepsBlocks (put_all first image) file.ino v → IsCut (put_all first image) v → IsCleanTo (put_all first image) file.ino v.size
+    → PutsInode (put_all first image) file.ino b v → IsPlanOf image ((Setattr file set', cred) ∷ []) now (first ++ (inode_sector file.ino, b) ∷ [])
+setattr-plan image file set' cred now n first v b strong whole is none quiet stores keeps cut clean puts =
+    let f : frame (put_all first image) ≡ frame image = quiet-frame first image quiet in
+    let w : view (put_all first image) ≡ view image = quiet-view first image quiet in
+    let body : IsBody n.size n.sectors = view-IsBody image file.ino n whole strong.weak (live-node (view image) file n is) in
+    quiet-plan image ((Setattr file set', cred) ∷ []) now first ((inode_sector file.ino, b) ∷ []) quiet strong.weak
+    (set-one (put_all first image) (subst IsStrong (sym f) strong) file set' cred now n (ap (λ (x : Files). live x file) w ∙ is) body
+    (ap (λ (x : Files). setattr_refusal x.read_only (attr_of file.ino n) set' cred) w ∙ none) v b stores keeps cut clean puts)
