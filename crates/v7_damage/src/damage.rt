@@ -22,14 +22,14 @@ pub enum Damage {
     Slot,
 }
 
-/// Why an inspection or a repair gives nothing else. Nothing was changed.
+/// Why an inspection or a repair gives nothing else.
 #[derive(Clone, Copy, Debug, PartialEq, Eq)]
 pub enum RepairFault {
-    /// The volume can't be mended: the first test that fails, and its sector.
+    /// The volume can't be mended: the first test that fails, and its sector. Nothing was changed.
     Damaged { sector: u32, kind: Damage },
-    /// The device failed.
+    /// The device failed. A repair may have mended some of the volume by then, and another one goes on with the rest.
     Failed,
-    /// There was no memory.
+    /// There was no memory. Nothing was changed.
     NoMemory,
 }
 

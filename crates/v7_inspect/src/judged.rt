@@ -28,8 +28,8 @@ struct Sum {
     strong: bool,
 }
 
-// Whether an inode is walked or named by a slot.
-fn is_named(known: &Undamaged, ino: u32) -> bool
+/// Whether an inode is walked or named by a slot.
+pub fn is_named(known: &Undamaged, ino: u32) -> bool
     requires { ino < length known.now.counts.items }
     ensures { result ≡ (mark_at known.now.walked ino || nat_lt 0 (get_or known.now.counts.items ino 0)) }
 {

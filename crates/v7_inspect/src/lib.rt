@@ -8,8 +8,8 @@ mod seen;
 mod tally;
 mod tidy;
 
-pub use inspection::inspect;
-pub use judged::{Judged, judge_inodes};
+pub use inspection::{inspect, seen_of};
+pub use judged::{Judged, is_named, judge_inodes};
 pub use seen::Seen;
 pub use v7_damage::{Damage, RepairFault};
 

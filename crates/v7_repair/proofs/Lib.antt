@@ -1,0 +1,4 @@
+mod Left
+mod Giving
+mod Looks
+mod Mends
