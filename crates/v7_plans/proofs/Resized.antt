@@ -1,22 +1,21 @@
 -- An inode with other attributes and another size may be put.
-use Rattle.std.proofs.Common.{◌≡◌, ◌≢◌, ℕ, ◌/◌, ◌%◌, ◌<◌, ◌≤◌, Bool, true, false, cond, not, ◌||◌, ◌==◌, List, refl, sym, ap, subst, ◌∙◌, arith, ⊎_elim, eqb, eq-eqb, Option, Some, None}
+use Rattle.std.proofs.Common.{◌≡◌, ◌≢◌, ℕ, ◌/◌, ◌%◌, ◌<◌, ◌≤◌, Bool, true, false, cond, not, ◌||◌, List, refl, sym, ap, subst, ◌∙◌, arith, ⊎_elim, eqb, eq-eqb, Some, None}
 use Rattle.std.proofs.lemmas.Bool.{cases_eq, cases_lt, cases_Bool, ne_eqb, eqb-true}
 use Rattle.std.specs.Option.{option_map}
 use Rattle.std.specs.FinMap.{get, empty}
 use Rattle.v7_layout.specs.declared.inode.Inode.{Inode}
 use Rattle.files_model.specs.Attributes.{cut_at}
-use Rattle.files_model.specs.Files.{Node, Sectors, sectors_of, clipped, tabulated}
+use Rattle.files_model.specs.Files.{Node, sectors_of, clipped, tabulated}
 use Rattle.files_model.specs.Permission as permission
-use Rattle.files_model.specs.declared.attributes.Kind.{Kind}
 use Rattle.files_model.specs.declared.attributes.Kind.TheVariants.{Regular, Directory, Link}
 use Rattle.files_model.proofs.Maps.{get-tabulated, get-tabulated_above, tabulated_same}
 use Rattle.stable.specs.Store.{Image}
-use Rattle.v7_map.specs.Frame.{Frame, Head, Place, Body, Single, Double, head_of, is_directory, address_of, slots_of, frame}
+use Rattle.v7_map.specs.Frame.{Frame, Place, Body, Single, Double, head_of, is_directory, address_of, slots_of, frame}
 use Rattle.v7_map.specs.Image.{sector_at, inode_at}
 use Rattle.v7_map.specs.Plan.{PutsInode}
 use Rattle.v7_map.specs.Tree.{tree}
-use Rattle.v7_map.specs.View.{node_of, node_at, body_of, body_at, held, kind_of}
-use Rattle.v7_map.specs.Weak.{IsStrong, IsWeak, IsGood}
+use Rattle.v7_map.specs.View.{node_of, node_at, body_of, held, kind_of}
+use Rattle.v7_map.specs.Weak.{IsStrong, IsGood}
 use Rattle.v7_map.proofs.Frames.{no_slots}
 use Rattle.v7_plans.specs.Placed.{IsMine, IsPlaced}
 use Rattle.v7_plans.specs.Resizing.{IsResized, StoresNode, KeepsBlocks, IsCut, IsCleanTo}

@@ -1,12 +1,9 @@
 -- An accepted SETATTR as a plan.
-use Rattle.std.proofs.Common.{◌≡◌, ◌≢◌, ℕ, ◌+◌, ◌-◌, ◌*◌, ◌<◌, ◌≤◌, Bool, true, false, cond, not, ◌&&◌, ◌||◌, ◌==◌, List, [], ◌∷◌, ◌++◌, length, set, refl, sym, ap, subst, ◌∙◌, arith, ⊎_elim, ltb, Option, Some, None, is_some}
-use Rattle.std.proofs.lemmas.Bool.{cases_eq, cases_lt, ne_eqb}
+use Rattle.std.proofs.Common.{◌≡◌, ℕ, ◌<◌, ◌≤◌, Bool, true, false, cond, not, ◌&&◌, ◌||◌, List, [], ◌∷◌, set, refl, sym, ap, ◌∙◌, arith, ⊎_elim, ltb, Option, Some, None, is_some}
+use Rattle.std.proofs.lemmas.Bool.{cases_lt}
 use Rattle.std.specs.FinMap.{get}
-use Rattle.std.specs.List.{range_with_len, list_any}
 use Rattle.std.specs.Option.{option_map}
-use Rattle.v7_layout.specs.declared.inode.Inode.{Inode}
-use Rattle.v7_layout.specs.Numbers.{field}
-use Rattle.files_model.specs.Attributes.{cut_at, with_size, set_node, is_root, is_owner, is_other, is_own_group, sets_owned, is_above}
+use Rattle.files_model.specs.Attributes.{cut_at, set_node, is_root, is_owner, is_other, is_own_group, sets_owned, is_above}
 use Rattle.files_model.specs.declared.attributes.Attr.{Attr}
 use Rattle.files_model.specs.declared.attributes.FileId.{FileId}
 use Rattle.files_model.specs.declared.attributes.Kind.{Kind}
@@ -17,14 +14,13 @@ use Rattle.files_model.specs.declared.permission.Want.TheVariants as want
 use Rattle.files_model.specs.declared.reply.Reply.TheVariants as reply
 use Rattle.files_model.specs.declared.reply.Stat.{Stat}
 use Rattle.files_model.specs.declared.reply.Stat.TheVariants as stat
-use Rattle.files_model.specs.Files.{Node, Files, Sectors, sectors_of, clipped, tabulated, IsBody, live}
+use Rattle.files_model.specs.Files.{Node, Files, Sectors, sectors_of, clipped, IsBody, live}
 use Rattle.files_model.specs.Permission as permission
 use Rattle.files_model.specs.Space.{size_limit}
 use Rattle.files_model.specs.Step.{attr_of, with_node, at_live, unless, setattr_refusal, setattr_row}
-use Rattle.files_model.specs.Torn.{Asked, after_calls}
+use Rattle.files_model.specs.Torn.{after_calls}
 use Rattle.files_model.proofs.Maps.{get-tabulated, get-tabulated_above, same_maps}
 use Rattle.v7_plans.specs.Resizing.{IsResized}
-use Rattle.v7_plans.specs.Setting.{IsSetting}
 
 -- a body cut at its own size
 pub cut-fixed : (size : ℕ) (sectors : Sectors) → IsBody size sectors → cut_at size sectors ≡ sectors

@@ -1,7 +1,8 @@
 -- Other attributes and another size for a node, and the inode that stores them.
-use Rattle.std.specs.Prelude.{◌≡◌, ◌≢◌, ℕ, ◌/◌, ◌%◌, ◌<◌, ◌≤◌, true, false, not, ◌==◌}
+use Rattle.std.specs.Prelude.{◌≡◌, ◌≢◌, ℕ, ◌-◌, ◌*◌, ◌/◌, ◌%◌, ◌<◌, ◌≤◌, true, false, List, length, not, ◌==◌}
 use Rattle.std.specs.List.{range_with_len, list_any}
 use Rattle.v7_layout.specs.declared.inode.Inode.{Inode}
+use Rattle.v7_layout.specs.Numbers.{field}
 use Rattle.files_model.specs.Attributes.{cut_at}
 use Rattle.files_model.specs.Files.{Node, sectors_of, clipped}
 use Rattle.files_model.specs.Permission.{is_directory, is_link}
@@ -41,3 +42,16 @@ pub record IsCut (image : Image) (v : Inode) : Type 0 where
 abbrev pub IsCleanTo : Image → ℕ → ℕ → Type 0
 IsCleanTo image i size = (k : ℕ) → k < sectors_of size → (frame image).address i (Body k) ≢ 0
     → clipped size k (sector_at image ((frame image).address i (Body k))) ≡ clipped size k (clipped (inode_at image i).size k (sector_at image ((frame image).address i (Body k))))
+
+-- The block of addresses a of file i, as bytes that have the addresses below the size of v and no others; `left` is a sector that keeps its own.
+pub record CutsAddresses (image : Image) (i : ℕ) (v : Inode) (a left : ℕ) (bytes : List ℕ) : Type 0 where
+  pub long : length bytes ≡ 512
+  pub single : address_of image (head_of v) Single ≡ a
+  pub there : a ≢ 0
+  pub direct : (k : ℕ) → k < 10 → sectors_of v.size ≤ k → address_of image (head_of v) (Body k) ≡ 0
+  pub stays : (k : ℕ) → 10 ≤ k → k < 138 → k < sectors_of v.size → field bytes (4 * (k - 10)) 4 ≡ (frame image).address i (Body k)
+  pub gone : (k : ℕ) → 10 ≤ k → k < 138 → sectors_of v.size ≤ k → field bytes (4 * (k - 10)) 4 ≡ 0
+  pub high : 10 ≤ left
+  pub small : left < 138
+  pub below : left < sectors_of v.size
+  pub some : (frame image).address i (Body left) ≢ 0

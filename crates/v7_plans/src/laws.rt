@@ -1,17 +1,26 @@
 // What plans that change one node leave of an image.
 
-ghost use Rattle.std.specs.Prelude.{◌≡◌, ◌≢◌, ℕ, false, List, [], ◌∷◌, ◌++◌, length};
-ghost use Rattle.files_model.specs.Files.{Node, clipped};
+ghost use Rattle.std.specs.Prelude.{◌≡◌, ◌≢◌, ℕ, ◌≤◌, false, List, [], ◌∷◌, ◌++◌, length, Some, None};
+ghost use Rattle.files_model.specs.Attributes.{set_node};
+ghost use Rattle.files_model.specs.declared.attributes.FileId.{FileId};
+ghost use Rattle.files_model.specs.declared.attributes.Kind.TheVariants.{Regular};
+ghost use Rattle.files_model.specs.declared.attributes.Sattr.{Sattr};
+ghost use Rattle.files_model.specs.declared.call.Call.TheVariants.{Setattr};
+ghost use Rattle.files_model.specs.declared.credential.Cred.{Cred};
+ghost use Rattle.files_model.specs.Files.{Node, clipped, live};
+ghost use Rattle.files_model.specs.Step.{attr_of, setattr_refusal};
 ghost use Rattle.files_model.specs.Torn.{Asked};
 ghost use Rattle.stable.specs.Puts.{put_all};
 ghost use Rattle.stable.specs.Store.{Image};
 ghost use Rattle.v7_layout.specs.declared.inode.Inode.{Inode};
 ghost use Rattle.v7_map.specs.Frame.{Place, Body, head_of, is_directory, address_of, frame};
-ghost use Rattle.v7_map.specs.Image.{sector_at, inode_sector};
+ghost use Rattle.v7_map.specs.Image.{IsImage, sector_at, inode_sector};
+ghost use Rattle.v7_map.specs.Plan.{PutsInode};
 ghost use Rattle.v7_map.specs.Plans.{IsPlanOf};
 ghost use Rattle.v7_map.specs.View.{view};
 ghost use Rattle.v7_map.specs.Weak.{IsWeak, IsStrong};
 ghost use Rattle.v7_plans.specs.Quiet.{IsQuiet, AllQuiet};
+ghost use Rattle.v7_plans.specs.Resizing.{StoresNode, KeepsBlocks, IsCut, IsCleanTo, CutsAddresses};
 ghost use Rattle.v7_plans.specs.Setting.{IsSetting, SetsInode, ShrinksTo, IsCutBy, put_inode};
 
 /// A call that changes one node alone, by one put of its inode: attributes, a size that shrinks and drops blocks of the inode's own (and a block of
@@ -42,4 +51,24 @@ pub fn zeros_past_the_size_are_quiet()
 pub fn quiet_puts_may_come_first()
     ensures { (image : Image) (calls : List Asked) (now : ℕ) (first puts : List (ℕ × List ℕ))
         → AllQuiet first image → IsWeak (frame image) → IsPlanOf (put_all first image) calls now puts → IsPlanOf image calls now (first ++ puts) }
+{}
+
+/// An accepted SETATTR, but for one that drops some of the sectors that are reached through a block of addresses which keeps others: puts that don't
+/// show, as of zeros past a size that grows, and the inode, of which the blocks below the new size stay and no other.
+pub fn an_accepted_setattr_is_planned()
+    ensures { (image : Image) (file : FileId) (set : Sattr) (cred : Cred) (now : ℕ) (n : Node) (first : List (ℕ × List ℕ)) (v : Inode) (b : List ℕ)
+        → IsStrong (frame image) → IsImage image → live (view image) file ≡ Some n → setattr_refusal (view image).read_only (attr_of file.ino n) set cred ≡ None
+        → AllQuiet first image
+        → StoresNode (put_all first image) file.ino (set_node n set now) v → KeepsBlocks (put_all first image) file.ino v → IsCut (put_all first image) v
+        → IsCleanTo (put_all first image) file.ino v.size → PutsInode (put_all first image) file.ino b v
+        → IsPlanOf image ((Setattr file set, cred) ∷ []) now (first ++ (inode_sector file.ino, b) ∷ []) }
+{}
+
+/// An accepted SETATTR that drops some of the sectors that are reached through a block of addresses which keeps others: the inode, and then that block.
+pub fn a_shorter_file_is_planned()
+    ensures { (image : Image) (file : FileId) (set : Sattr) (cred : Cred) (now : ℕ) (n : Node) (v : Inode) (b : List ℕ) (a left : ℕ) (bytes : List ℕ)
+        → IsStrong (frame image) → IsImage image → live (view image) file ≡ Some n → setattr_refusal (view image).read_only (attr_of file.ino n) set cred ≡ None
+        → n.kind ≡ Regular → v.size ≤ n.size
+        → StoresNode image file.ino (set_node n set now) v → KeepsBlocks image file.ino v → PutsInode image file.ino b v → CutsAddresses image file.ino v a left bytes
+        → IsPlanOf image ((Setattr file set, cred) ∷ []) now ((inode_sector file.ino, b) ∷ (a, bytes) ∷ []) }
 {}
