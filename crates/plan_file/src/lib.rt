@@ -2,6 +2,7 @@
 #![tactic(auto)]
 
 mod accepted;
+mod attributes;
 mod batch_plan;
 mod decide;
 mod draft;
