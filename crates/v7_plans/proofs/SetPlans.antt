@@ -34,15 +34,15 @@ use Rattle.v7_map.proofs.Used.{named_used}
 use Rattle.v7_map.proofs.Walks.{any_at, among-range}
 use Rattle.v7_plans.specs.Placed.{IsMine}
 use Rattle.v7_plans.specs.Quiet.{AllQuiet}
-use Rattle.v7_plans.specs.Resizing.{IsResized, StoresNode, KeepsBlocks, IsCut, IsCleanTo, CutsAddresses}
+use Rattle.v7_plans.specs.Resizing.{IsResized, StoresNode, KeepsBlocks, IsCut, IsCleanTo, CutsAddresses, AreLeft, AreSet}
 use Rattle.v7_plans.specs.Setting.{IsSetting, ShrinksTo, IsCutBy, put_inode}
-use Rattle.v7_plans.proofs.AddressPut.{map-muted, map-address_direct, map-address_listed, map-address_past, map-address_single, map-address_double}
+use Rattle.v7_plans.proofs.AddressPut.{map-muted, map-address_direct, map-address_listed, map-address_past, map-address_single, map-address_double, map-address_other}
 use Rattle.v7_plans.proofs.Local.{held-mine}
 use Rattle.v7_plans.proofs.Quieting.{quiet-plan, quiet-frame, quiet-view}
 use Rattle.v7_plans.proofs.Resized.{resized-sets, resized-shrinks}
-use Rattle.v7_plans.proofs.SettingPlan.{setting-plan}
+use Rattle.v7_plans.proofs.SettingPlan.{setting-plan, setting-blocks}
 use Rattle.v7_plans.proofs.Setattr.{accepted-size, set-resized, setattr-sets}
-use Rattle.v7_plans.proofs.ShrinkPlan.{shrink-plan, shrink-weak, shrink-head, shrink-address}
+use Rattle.v7_plans.proofs.ShrinkPlan.{shrink-plan, shrink-weak, shrink-head, shrink-address, shrink-elsewhere}
 
 module _ (image : Image) (strong : IsStrong (frame image)) (file : FileId) (set' : Sattr) (cred : Cred) (now : ℕ) (n : Node) (is : live (view image) file ≡ Some n)
     (body : IsBody n.size n.sectors) (none : setattr_refusal (view image).read_only (attr_of file.ino n) set' cred ≡ None) where
@@ -77,6 +77,10 @@ module _ (image : Image) (strong : IsStrong (frame image)) (file : FileId) (set'
   set-one : (v : Inode) (b : List ℕ) → StoresNode image file.ino m v → KeepsBlocks image file.ino v → IsCut image v → IsCleanTo image file.ino v.size → PutsInode image file.ino b v
       → IsPlanOf image (asked ∷ []) now ((inode_sector file.ino, b) ∷ [])
   set-one v b stores keeps cut clean puts = setting-plan image asked now file.ino n m v b strong setting (resized-sets image file.ino strong used m v resized stores keeps clean cut b puts)
+
+  set-blocks : (v : Inode) (b : List ℕ) → StoresNode image file.ino m v → KeepsBlocks image file.ino v → IsCut image v → IsCleanTo image file.ino v.size → PutsInode image file.ino b v
+      → AreSet image (put_inode image file.ino b) file.ino v
+  set-blocks v b stores keeps cut clean puts = let blocks = setting-blocks image asked now file.ino n m v b strong setting (resized-sets image file.ino strong used m v resized stores keeps clean cut b puts) in record { own = blocks.0; others = blocks.1 }
 
   -- a file gets shorter, and its block of addresses keeps some
   module _ (v : Inode) (b : List ℕ) (stores : StoresNode image file.ino m v) (keeps : KeepsBlocks image file.ino v) (clean : IsCleanTo image file.ino v.size) (puts : PutsInode image file.ino b v)
@@ -153,18 +157,32 @@ module _ (image : Image) (strong : IsStrong (frame image)) (file : FileId) (set'
     pub shorter-plan : IsPlanOf image (asked ∷ []) now ((inode_sector file.ino, b) ∷ (a, bytes) ∷ [])
     shorter-plan = shrink-plan image asked now file.ino n m v b strong setting to ((a, bytes) ∷ []) cut
 
+    pub shorter-left : AreLeft image last file.ino v a bytes
+    shorter-left = record {
+      direct = λ k lt. at_direct k lt ∙ address_mid (Body k);
+      listed = at_listed;
+      past = at_past;
+      single = map-address_single mid file.ino a bytes weak_mid used_mid stays_mid single_mid by.there ∙ single_mid;
+      double = map-address_double mid file.ino a bytes weak_mid used_mid stays_mid single_mid by.there ∙ weak_mid.no_double file.ino;
+      others = λ j ne p. map-address_other mid file.ino a bytes weak_mid used_mid stays_mid single_mid by.there j ne p ∙ (shrink-elsewhere image asked now file.ino n m v b strong setting to).addresses j ne p;
+    }
+
 -- puts that don't show, and the inode
 pub setattr-plan : (image : Image) (file : FileId) (set' : Sattr) (cred : Cred) (now : ℕ) (n : Node) (first : List (ℕ × List ℕ)) (v : Inode) (b : List ℕ)
     → IsStrong (frame image) → IsImage image → live (view image) file ≡ Some n → setattr_refusal (view image).read_only (attr_of file.ino n) set' cred ≡ None → AllQuiet first image
     → StoresNode (put_all first image) file.ino (set_node n set' now) v → KeepsBlocks (put_all first image) file.ino v → IsCut (put_all first image) v → IsCleanTo (put_all first image) file.ino v.size
-    → PutsInode (put_all first image) file.ino b v → IsPlanOf image ((Setattr file set', cred) ∷ []) now (first ++ (inode_sector file.ino, b) ∷ [])
+    → PutsInode (put_all first image) file.ino b v
+    → IsPlanOf image ((Setattr file set', cred) ∷ []) now (first ++ (inode_sector file.ino, b) ∷ []) × AreSet (put_all first image) (put_inode (put_all first image) file.ino b) file.ino v
 setattr-plan image file set' cred now n first v b strong whole is none quiet stores keeps cut clean puts =
     let f : frame (put_all first image) ≡ frame image = quiet-frame first image quiet in
     let w : view (put_all first image) ≡ view image = quiet-view first image quiet in
     let body : IsBody n.size n.sectors = view-IsBody image file.ino n whole strong.weak (live-node (view image) file n is) in
-    quiet-plan image ((Setattr file set', cred) ∷ []) now first ((inode_sector file.ino, b) ∷ []) quiet strong.weak
-    (set-one (put_all first image) (subst IsStrong (sym f) strong) file set' cred now n (ap (λ (x : Files). live x file) w ∙ is) body
-    (ap (λ (x : Files). setattr_refusal x.read_only (attr_of file.ino n) set' cred) w ∙ none) v b stores keeps cut clean puts)
+    let strong' : IsStrong (frame (put_all first image)) = subst IsStrong (sym f) strong in
+    let is' : live (view (put_all first image)) file ≡ Some n = ap (λ (x : Files). live x file) w ∙ is in
+    let none' : setattr_refusal (view (put_all first image)).read_only (attr_of file.ino n) set' cred ≡ None = ap (λ (x : Files). setattr_refusal x.read_only (attr_of file.ino n) set' cred) w ∙ none in
+    (quiet-plan image ((Setattr file set', cred) ∷ []) now first ((inode_sector file.ino, b) ∷ []) quiet strong.weak
+    (set-one (put_all first image) strong' file set' cred now n is' body none' v b stores keeps cut clean puts),
+    set-blocks (put_all first image) strong' file set' cred now n is' body none' v b stores keeps cut clean puts)
 
 -- ---- a file that gets shorter
 
@@ -196,10 +214,12 @@ clean-shorter image i size weak whole le k lt nz =
 pub shorter-file : (image : Image) (file : FileId) (set' : Sattr) (cred : Cred) (now : ℕ) (n : Node) (v : Inode) (b : List ℕ) (a left : ℕ) (bytes : List ℕ)
     → IsStrong (frame image) → IsImage image → live (view image) file ≡ Some n → setattr_refusal (view image).read_only (attr_of file.ino n) set' cred ≡ None → n.kind ≡ Regular → v.size ≤ n.size
     → StoresNode image file.ino (set_node n set' now) v → KeepsBlocks image file.ino v → PutsInode image file.ino b v → CutsAddresses image file.ino v a left bytes
-    → IsPlanOf image ((Setattr file set', cred) ∷ []) now ((inode_sector file.ino, b) ∷ (a, bytes) ∷ [])
+    → IsPlanOf image ((Setattr file set', cred) ∷ []) now ((inode_sector file.ino, b) ∷ (a, bytes) ∷ []) × AreLeft image (set (put_inode image file.ino b) a bytes) file.ino v a bytes
 shorter-file image file set' cred now n v b a left bytes strong whole is none regular less stores keeps puts by =
     let there : get (view image).nodes file.ino ≡ Some n = live-node (view image) file n is in
     let s = view-node image file.ino n there in
     let size : (inode_at image file.ino).size ≡ n.size = ap (λ (x : Node). x.size) s.is in
     let body : IsBody n.size n.sectors = view-IsBody image file.ino n whole strong.weak there in
-    shorter-plan image strong file set' cred now n is body none v b stores keeps (clean-shorter image file.ino v.size strong.weak whole (omega arith)) puts (is_file image file.ino n s regular) a left bytes by
+    let clean = clean-shorter image file.ino v.size strong.weak whole (omega arith) in
+    let no_directory = is_file image file.ino n s regular in
+    (shorter-plan image strong file set' cred now n is body none v b stores keeps clean puts no_directory a left bytes by, shorter-left image strong file set' cred now n is body none v b stores keeps clean puts no_directory a left bytes by)

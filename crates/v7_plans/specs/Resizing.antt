@@ -9,7 +9,7 @@ use Rattle.files_model.specs.Permission.{is_directory, is_link}
 use Rattle.files_model.specs.Space.{size_limit}
 use Rattle.stable.specs.Store.{Image}
 use Rattle.v7_map.specs.Frame as map
-use Rattle.v7_map.specs.Frame.{Place, Body, Single, head_of, address_of, frame}
+use Rattle.v7_map.specs.Frame.{Place, Body, Single, Double, head_of, address_of, frame}
 use Rattle.v7_map.specs.Image.{sector_at, inode_at}
 
 -- The node m is n with other attributes and another size; only a file has another size, and what it holds is cut there.
@@ -55,3 +55,17 @@ pub record CutsAddresses (image : Image) (i : ℕ) (v : Inode) (a left : ℕ) (b
   pub small : left < 138
   pub below : left < sectors_of v.size
   pub some : (frame image).address i (Body left) ≢ 0
+
+-- where blocks stand after that: those of file i by v and these bytes, all others where they did
+pub record AreLeft (old new : Image) (i : ℕ) (v : Inode) (a : ℕ) (bytes : List ℕ) : Type 0 where
+  pub direct : (k : ℕ) → k < 10 → (frame new).address i (Body k) ≡ address_of old (head_of v) (Body k)
+  pub listed : (k : ℕ) → 10 ≤ k → k < 138 → (frame new).address i (Body k) ≡ field bytes (4 * (k - 10)) 4
+  pub past : (k : ℕ) → 138 ≤ k → (frame new).address i (Body k) ≡ 0
+  pub single : (frame new).address i Single ≡ a
+  pub double : (frame new).address i Double ≡ 0
+  pub others : (j : ℕ) → j ≢ i → (p : Place) → (frame new).address j p ≡ (frame old).address j p
+
+-- where blocks stand once v is put on an image: those of file i by v, all others where they did
+pub record AreSet (old new : Image) (i : ℕ) (v : Inode) : Type 0 where
+  pub own : (p : Place) → (frame new).address i p ≡ address_of old (head_of v) p
+  pub others : (j : ℕ) → j ≢ i → (p : Place) → (frame new).address j p ≡ (frame old).address j p

@@ -1,6 +1,6 @@
 // What plans that change one node leave of an image.
 
-ghost use Rattle.std.specs.Prelude.{◌≡◌, ◌≢◌, ℕ, ◌≤◌, false, List, [], ◌∷◌, ◌++◌, length, Some, None};
+ghost use Rattle.std.specs.Prelude.{◌≡◌, ◌≢◌, ℕ, ◌≤◌, false, List, [], ◌∷◌, ◌++◌, length, set, Some, None};
 ghost use Rattle.files_model.specs.Attributes.{set_node};
 ghost use Rattle.files_model.specs.declared.attributes.FileId.{FileId};
 ghost use Rattle.files_model.specs.declared.attributes.Kind.TheVariants.{Regular};
@@ -20,7 +20,7 @@ ghost use Rattle.v7_map.specs.Plans.{IsPlanOf};
 ghost use Rattle.v7_map.specs.View.{view};
 ghost use Rattle.v7_map.specs.Weak.{IsWeak, IsStrong};
 ghost use Rattle.v7_plans.specs.Quiet.{IsQuiet, AllQuiet};
-ghost use Rattle.v7_plans.specs.Resizing.{StoresNode, KeepsBlocks, IsCut, IsCleanTo, CutsAddresses};
+ghost use Rattle.v7_plans.specs.Resizing.{StoresNode, KeepsBlocks, IsCut, IsCleanTo, CutsAddresses, AreLeft, AreSet};
 ghost use Rattle.v7_plans.specs.Setting.{IsSetting, SetsInode, ShrinksTo, IsCutBy, put_inode};
 
 /// A call that changes one node alone, by one put of its inode: attributes, a size that shrinks and drops blocks of the inode's own (and a block of
@@ -56,19 +56,31 @@ pub fn quiet_puts_may_come_first()
 /// An accepted SETATTR, but for one that drops some of the sectors that are reached through a block of addresses which keeps others: puts that don't
 /// show, as of zeros past a size that grows, and the inode, of which the blocks below the new size stay and no other.
 pub fn an_accepted_setattr_is_planned()
-    ensures { (image : Image) (file : FileId) (set : Sattr) (cred : Cred) (now : ℕ) (n : Node) (first : List (ℕ × List ℕ)) (v : Inode) (b : List ℕ)
-        → IsStrong (frame image) → IsImage image → live (view image) file ≡ Some n → setattr_refusal (view image).read_only (attr_of file.ino n) set cred ≡ None
+    ensures planned { (image : Image) (file : FileId) (wanted : Sattr) (cred : Cred) (now : ℕ) (n : Node) (first : List (ℕ × List ℕ)) (v : Inode) (b : List ℕ)
+        → IsStrong (frame image) → IsImage image → live (view image) file ≡ Some n → setattr_refusal (view image).read_only (attr_of file.ino n) wanted cred ≡ None
         → AllQuiet first image
-        → StoresNode (put_all first image) file.ino (set_node n set now) v → KeepsBlocks (put_all first image) file.ino v → IsCut (put_all first image) v
+        → StoresNode (put_all first image) file.ino (set_node n wanted now) v → KeepsBlocks (put_all first image) file.ino v → IsCut (put_all first image) v
         → IsCleanTo (put_all first image) file.ino v.size → PutsInode (put_all first image) file.ino b v
-        → IsPlanOf image ((Setattr file set, cred) ∷ []) now (first ++ (inode_sector file.ino, b) ∷ []) }
+        → IsPlanOf image ((Setattr file wanted, cred) ∷ []) now (first ++ (inode_sector file.ino, b) ∷ []) }
+    ensures blocks { (image : Image) (file : FileId) (wanted : Sattr) (cred : Cred) (now : ℕ) (n : Node) (first : List (ℕ × List ℕ)) (v : Inode) (b : List ℕ)
+        → IsStrong (frame image) → IsImage image → live (view image) file ≡ Some n → setattr_refusal (view image).read_only (attr_of file.ino n) wanted cred ≡ None
+        → AllQuiet first image
+        → StoresNode (put_all first image) file.ino (set_node n wanted now) v → KeepsBlocks (put_all first image) file.ino v → IsCut (put_all first image) v
+        → IsCleanTo (put_all first image) file.ino v.size → PutsInode (put_all first image) file.ino b v
+        → AreSet (put_all first image) (put_inode (put_all first image) file.ino b) file.ino v }
 {}
 
 /// An accepted SETATTR that drops some of the sectors that are reached through a block of addresses which keeps others: the inode, and then that block.
+/// Afterwards its blocks are those of the inode and of that block, and all others stand where they did.
 pub fn a_shorter_file_is_planned()
-    ensures { (image : Image) (file : FileId) (set : Sattr) (cred : Cred) (now : ℕ) (n : Node) (v : Inode) (b : List ℕ) (a left : ℕ) (bytes : List ℕ)
-        → IsStrong (frame image) → IsImage image → live (view image) file ≡ Some n → setattr_refusal (view image).read_only (attr_of file.ino n) set cred ≡ None
+    ensures planned { (image : Image) (file : FileId) (wanted : Sattr) (cred : Cred) (now : ℕ) (n : Node) (v : Inode) (b : List ℕ) (a left : ℕ) (bytes : List ℕ)
+        → IsStrong (frame image) → IsImage image → live (view image) file ≡ Some n → setattr_refusal (view image).read_only (attr_of file.ino n) wanted cred ≡ None
         → n.kind ≡ Regular → v.size ≤ n.size
-        → StoresNode image file.ino (set_node n set now) v → KeepsBlocks image file.ino v → PutsInode image file.ino b v → CutsAddresses image file.ino v a left bytes
-        → IsPlanOf image ((Setattr file set, cred) ∷ []) now ((inode_sector file.ino, b) ∷ (a, bytes) ∷ []) }
+        → StoresNode image file.ino (set_node n wanted now) v → KeepsBlocks image file.ino v → PutsInode image file.ino b v → CutsAddresses image file.ino v a left bytes
+        → IsPlanOf image ((Setattr file wanted, cred) ∷ []) now ((inode_sector file.ino, b) ∷ (a, bytes) ∷ []) }
+    ensures blocks { (image : Image) (file : FileId) (wanted : Sattr) (cred : Cred) (now : ℕ) (n : Node) (v : Inode) (b : List ℕ) (a left : ℕ) (bytes : List ℕ)
+        → IsStrong (frame image) → IsImage image → live (view image) file ≡ Some n → setattr_refusal (view image).read_only (attr_of file.ino n) wanted cred ≡ None
+        → n.kind ≡ Regular → v.size ≤ n.size
+        → StoresNode image file.ino (set_node n wanted now) v → KeepsBlocks image file.ino v → PutsInode image file.ino b v → CutsAddresses image file.ino v a left bytes
+        → AreLeft image (set (put_inode image file.ino b) a bytes) file.ino v a bytes }
 {}
