@@ -21,3 +21,4 @@ pub mod Listed
 pub mod Reading
 pub mod Adding
 pub mod Covered
+pub mod Dropping

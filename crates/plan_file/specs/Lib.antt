@@ -9,3 +9,4 @@ pub mod Contents
 pub mod Grown
 pub mod Started
 pub mod Planned
+pub mod Shorter

@@ -11,6 +11,7 @@ mod inode;
 mod laws;
 mod layout;
 mod places;
+mod shorter;
 mod started;
 
 pub use batch_plan::{PlanFault, Planned, plan_writes};
