@@ -22,3 +22,4 @@ pub mod Reading
 pub mod Adding
 pub mod Covered
 pub mod Dropping
+pub mod Zeros

@@ -10,3 +10,4 @@ pub mod Grown
 pub mod Started
 pub mod Planned
 pub mod Shorter
+pub mod Set

@@ -11,11 +11,13 @@ mod inode;
 mod laws;
 mod layout;
 mod places;
+mod set_plan;
 mod shorter;
 mod started;
 
 pub use batch_plan::{PlanFault, Planned, plan_writes};
 pub use laws::batch_is_planned;
+pub use set_plan::PlannedSet;
 
 #[cfg(test)]
 mod tests;
