@@ -23,3 +23,7 @@ pub mod Adding
 pub mod Covered
 pub mod Dropping
 pub mod Zeros
+pub mod Giving
+pub mod Storing
+pub mod Zeroed
+pub mod SetDone

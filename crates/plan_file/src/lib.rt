@@ -17,7 +17,7 @@ mod started;
 
 pub use batch_plan::{PlanFault, Planned, plan_writes};
 pub use laws::batch_is_planned;
-pub use set_plan::PlannedSet;
+pub use set_plan::{PlannedSet, plan_setattr};
 
 #[cfg(test)]
 mod tests;

@@ -2,6 +2,7 @@
 
 ghost use Rattle.std.specs.Prelude.{◌≡◌, ◌≢◌, ◌<◌, ◌≤◌, ◌^◌, ℕ, [], length, All, ◌++◌, IfOk, OnOk, IsErrOf};
 ghost use Rattle.files_model.specs.Space.{size_limit};
+ghost use Rattle.files_model.specs.declared.reply.Reply.TheVariants as reply;
 ghost use Rattle.stable.specs.Counts.{HasCause, Rose};
 ghost use Rattle.stable.specs.Looked.{Looked};
 ghost use Rattle.v7_layout.specs.Written.{AddressesFit};
@@ -117,4 +118,101 @@ fn add_shorter<S: Stable>(
     plan.add(inode_sector_of(ino), &sector);
     add_left(plan, &places, &kept);
     Ok(dropped(&places, &kept))
+}
+
+// Plans a SETATTR that makes these attributes of a file.
+fn put_set<S: Stable>(
+    store: &mut S,
+    mut plan: Plan,
+    ino: u32,
+    found: &Found,
+    attr: &Attr,
+) -> Result<PlannedSet, Failed>
+    requires empty { plan ≡ [] }
+    requires mode { attr.now.mode < 4096 }
+    requires place { inode_sector ino < S.sector_count store.old }
+    ensures done { S.tells → IfOk result (λ r. AreSetPuts (S.image store.old) ino found.now attr.now r.plan r.freed.items) }
+    ensures reply { IfOk result (λ r. r.reply ≡ reply.Attr attr.now) }
+    ensures fits { IfOk result (λ r. CanBePut (S.sector_count store.old) r.plan) }
+    ensures cause { HasCause (S.faults store.old) (S.faults store.new) result }
+    ensures looked { Looked S.Stable store.old store.new }
+{
+    let reply = Reply::Attr(*attr);
+    if attr.size < found.inode.size {
+        let freed = add_shorter(store, &mut plan, ino, found, attr)?;
+        return Ok(PlannedSet { plan, reply, freed });
+    }
+    add_kept(store, &mut plan, ino, found, attr)?;
+    let freed = ArrayVec::new();
+    Ok(PlannedSet { plan, reply, freed })
+}
+
+// Nothing is planned, and this is the answer.
+fn refused(plan: Plan, status: Stat) -> PlannedSet
+    ensures plan { result.plan ≡ plan }
+    ensures reply { result.reply ≡ reply.Refused status }
+    ensures freed { result.freed.items ≡ [] }
+{
+    PlannedSet {
+        plan,
+        reply: Reply::Refused(status),
+        freed: ArrayVec::new(),
+    }
+}
+
+// Plans a SETATTR of a file that stands.
+fn set_found<S: Stable>(
+    store: &mut S,
+    plan: Plan,
+    file: FileId,
+    found: &Found,
+    wanted: &Sattr,
+    cred: &Cred,
+    now: u32,
+) -> Result<PlannedSet, Failed>
+    requires empty { plan ≡ [] }
+    requires place { inode_sector file.ino < S.sector_count store.old }
+    ensures planned { S.tells → IsStrong (frame (S.image store.old)) → IsFile (S.image store.old) file found.now → IfOk result (λ r. IsPlannedSet (S.image store.old) file wanted.now cred.now now r.plan r.reply r.freed.items) }
+    ensures fits { IfOk result (λ r. CanBePut (S.sector_count store.old) r.plan) }
+    ensures cause { HasCause (S.faults store.old) (S.faults store.new) result }
+    ensures looked { Looked S.Stable store.old store.new }
+{
+    let attr = attributes_of(file.ino, &found.inode);
+    match set_refusal_of(found.read_only, &attr, wanted, cred) {
+        Some(status) => return Ok(refused(plan, status)),
+        None => {}
+    }
+    let after = set_attributes(&attr, wanted, now);
+    let planned = put_set(store, plan, file.ino, found, &after)?;
+    Ok(planned)
+}
+
+/// Plans a SETATTR (RFC 1094 2.2.3): where the size grows over a last sector that is held and partial, that sector with zeros past the old size; the
+/// inode; where the size shrinks, the block of addresses if it keeps one and changes. A size that grows adds no sector. Nothing is put. All memory that
+/// the plan needs is taken here. The blocks that are freed may go back to the sets once the whole plan is put, and not before.
+pub fn plan_setattr<S: Stable>(
+    alloc: Global,
+    store: &mut S,
+    file: FileId,
+    wanted: &Sattr,
+    cred: &Cred,
+    now: u32,
+) -> Result<PlannedSet, PlanFault>
+    ensures planned { S.tells → IsStrong (frame (S.image store.old)) → IfOk result (λ r. IsPlannedSet (S.image store.old) file wanted.now cred.now now r.plan r.reply r.freed.items) }
+    ensures fits { IfOk result (λ r. CanBePut (S.sector_count store.old) r.plan) }
+    ensures cause { IsErrOf result PlanFault.Failed → Rose (S.faults store.old) (S.faults store.new) }
+    ensures looked { Looked S.Stable store.old store.new }
+{
+    let Ok(plan) = Plan::new(alloc) else {
+        return Err(PlanFault::NoMemory);
+    };
+    let found = match find(store, file) {
+        Ok(Some(found)) => found,
+        Ok(None) => return Ok(refused(plan, Stat::Stale)),
+        Err(_) => return Err(PlanFault::Failed),
+    };
+    match set_found(store, plan, file, &found, wanted, cred, now) {
+        Ok(planned) => Ok(planned),
+        Err(_) => Err(PlanFault::Failed),
+    }
 }
