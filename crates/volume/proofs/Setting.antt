@@ -16,7 +16,8 @@ use Rattle.v7_map.specs.Weak.{IsWeak, IsStrong}
 use Rattle.v7_make.specs.Chains.{FitStore}
 use Rattle.v7_sets.specs.Sets.{AreSetsOf}
 use Rattle.v7_sets.specs.declared.sets.Sets.{Sets}
-use Rattle.volume.specs.Applied.{HasForm}
+use Rattle.volume.specs.declared.outcome.Outcome.TheVariants as outcome
+use Rattle.volume.specs.Applied.{HasForm, Hurts}
 use Rattle.volume.specs.Rests.{IsAtRest}
 use Rattle.volume.proofs.Committing.{put_planned}
 use Rattle.volume.proofs.HasVolume.{frame-sectors}
@@ -49,3 +50,7 @@ rest_set tells old mid new sectors sectors' sets blocks file wanted cred now put
         let all = frame-sectors old in
         let many = long told in
         omega (arith, has, end, all, many)
+
+-- a failed one hurts its volume
+pub set_hurts : (file : FileId) (wanted : Sattr) → Hurts (Setattr file wanted) outcome.Io false true
+set_hurts file wanted = ((λ change. refl), (λ idle sound. absurd (cc)))
