@@ -20,6 +20,7 @@ use Rattle.v7_map.specs.Plans.{IsPlanOf, IsTornImage}
 use Rattle.v7_map.specs.View.{view}
 use Rattle.v7_map.specs.Weak.{IsWeak}
 use Rattle.v7_map.proofs.Kept.{plan-torn}
+use Rattle.v7_make.specs.Chains.{FitStore}
 use Rattle.v7_sets.specs.declared.sets.Sets.{Sets}
 use Rattle.volume.specs.declared.outcome.Commit.{Commit}
 use Rattle.volume.specs.declared.outcome.Commit.TheVariants as commit

@@ -1,7 +1,7 @@
 pub mod Applying
 pub mod Committing
 pub mod Counting
-pub mod Giving
+pub mod GivenBack
 pub mod HasVolume
 pub mod OpenMarks
 pub mod Naming

@@ -14,11 +14,11 @@ length-given [] blocks = refl
 length-given (y ∷ ys) blocks = length-given ys (set blocks y true) ∙ length-set blocks y true
 
 -- one block more
-pub given_next : (freed : List ℕ) (i x : ℕ) (blocks : List Bool) → i < length freed → x ≡ get_or freed i x → given (take (i + 1) freed) blocks ≡ set (given (take i freed) blocks) x true
-given_next freed i x blocks lt is = ap (λ l. given l blocks) (take_more freed i x lt ∙ ap (λ y. take i freed ++ y ∷ []) (sym is)) ∙ given_more (take i freed) x blocks
+pub given_next : (freed : List ℕ) (i x : ℕ) (blocks : List Bool) → i < length freed → x ≡ get_or freed i 0 → given (take (i + 1) freed) blocks ≡ set (given (take i freed) blocks) x true
+given_next freed i x blocks lt is = ap (λ l. given l blocks) (take_more freed i 0 lt ∙ ap (λ y. take i freed ++ y ∷ []) (sym is)) ∙ given_more (take i freed) x blocks
 
 -- one that the set has no room for
-pub given_past : (freed : List ℕ) (i x : ℕ) (blocks : List Bool) → i < length freed → x ≡ get_or freed i x → length blocks ≤ x → given (take (i + 1) freed) blocks ≡ given (take i freed) blocks
+pub given_past : (freed : List ℕ) (i x : ℕ) (blocks : List Bool) → i < length freed → x ≡ get_or freed i 0 → length blocks ≤ x → given (take (i + 1) freed) blocks ≡ given (take i freed) blocks
 given_past freed i x blocks lt is past =
     let long = length-given (take i freed) blocks in
     given_next freed i x blocks lt is ∙ set_past (given (take i freed) blocks) x true (omega (arith, long, past))
