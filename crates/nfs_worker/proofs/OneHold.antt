@@ -29,6 +29,9 @@ pub reply_fits : (xid : ℕ) (c : Call) (r : Reply) → has_row c ≡ true → H
 reply_fits xid (call.Getattr file) (reply.Refused status) row form = let fits = short_fits xid (reply.Refused status) 0 tt in omega (arith, fits)
 reply_fits xid (call.Getattr file) (reply.Attr attr) row form = let fits = short_fits xid (reply.Attr attr) 0 tt in omega (arith, fits)
 reply_fits xid (call.Getattr file) _ row form = absurd form
+reply_fits xid (call.Setattr file set) (reply.Refused status) row form = let fits = short_fits xid (reply.Refused status) 0 tt in omega (arith, fits)
+reply_fits xid (call.Setattr file set) (reply.Attr attr) row form = let fits = short_fits xid (reply.Attr attr) 0 tt in omega (arith, fits)
+reply_fits xid (call.Setattr file set) _ row form = absurd form
 reply_fits xid (call.Read file offset count) (reply.Refused status) row form = let fits = short_fits xid (reply.Refused status) 0 tt in omega (arith, fits)
 reply_fits xid (call.Read file offset count) (reply.Data attr bytes) row form = data_fits xid attr bytes 0 form
 reply_fits xid (call.Read file offset count) _ row form = absurd form

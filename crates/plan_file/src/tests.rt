@@ -1,11 +1,7 @@
 //! Batches on a small volume over a store in memory.
 
-ghost use Rattle.std.specs.Prelude.{◌≡◌, ◌≤◌, true, length};
-ghost use Rattle.v7_sets.specs.Sets.{AreSpare};
-
 use crate::batch_plan::{Planned, plan_writes};
 use files_model::{Cred, Data, FileId, Gids, Reply, Stat, WriteItem};
-use index_sets::FreeSet;
 use stable::Stable;
 use std::alloc::Global;
 use std::test::Fail;
@@ -17,19 +13,6 @@ const FILE: FileId = FileId {
     ino: 3,
     generation: 1,
 };
-
-// Whether blocks are past the super-block and within a store.
-fn is_spare(blocks: &FreeSet, sectors: u32) -> bool
-    ensures { result ≡ true → AreSpare sectors blocks.now }
-{
-    if blocks.lowest_from(sectors.min(1_048_576)).is_some() {
-        return false;
-    }
-    match blocks.lowest_from(0) {
-        Some(lowest) => lowest >= 2,
-        None => true,
-    }
-}
 
 // A volume of 64 sectors, whose data blocks begin at 4, and whose file 3 is empty.
 fn volume(alloc: Global) -> Result<Memory, Fail> {
@@ -82,7 +65,7 @@ fn plan(
     sets: &mut Sets,
     batch: &[WriteItem],
 ) -> Result<Planned, Fail> {
-    if batch.len() > 16 || !is_spare(&sets.blocks, store.sectors()) {
+    if batch.len() > 16 {
         return Err("no batch".into());
     }
     Ok(plan_writes(alloc, store, sets, FILE, batch, 2000).map_err(|_| "not planned")?)
