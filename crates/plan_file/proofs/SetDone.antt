@@ -1,8 +1,7 @@
 -- The plan of a SETATTR, by what was found and put.
-use Rattle.std.proofs.Common.{◌≡◌, ◌≢◌, ◌⊎◌, ℕ, ◌+◌, ◌-◌, ◌*◌, ◌/◌, ◌%◌, ◌<◌, ◌≤◌, min, Bool, true, false, cond, not, ◌&&◌, ◌==◌, List, [], ◌∷◌, ◌++◌, length, take, drop, get_or, set, refl, sym, ap, subst, ◌∙◌, arith, inl, inr, ⊎_elim, eqb, eq-eqb, ltb, leb, Option, Some, None, is_some}
+use Rattle.std.proofs.Common.{◌≡◌, ◌≢◌, ℕ, ◌+◌, ◌-◌, ◌*◌, ◌/◌, ◌<◌, ◌≤◌, min, Bool, true, false, cond, not, ◌&&◌, ◌==◌, List, [], ◌∷◌, ◌++◌, length, take, drop, get_or, set, refl, sym, ap, subst, ◌∙◌, arith, inl, ⊎_elim, eqb, eq-eqb, ltb, leb, Option, Some, None, is_some}
 use Rattle.std.proofs.lemmas.Bool.{cases_eq, cases_lt, cases_Bool, ne_eqb, eqb-true, lt-ltb, le-ltb}
-use Rattle.std.specs.List.{range_with_len, list_any, AllByRecursion}
-use Rattle.std.specs.FinMap.{get}
+use Rattle.std.specs.List.{range_with_len, list_any}
 use Rattle.v7_layout.specs.declared.inode.Inode.{Inode}
 use Rattle.v7_layout.specs.Numbers.{field}
 use Rattle.files_model.specs.Among.{is_among}
@@ -18,23 +17,22 @@ use Rattle.files_model.specs.declared.reply.Reply.{Reply}
 use Rattle.files_model.specs.declared.reply.Reply.TheVariants as reply
 use Rattle.files_model.specs.declared.reply.Stat.{Stat}
 use Rattle.files_model.specs.declared.reply.Stat.TheVariants as stat
-use Rattle.files_model.specs.Files.{Node, Files, sectors_of, clipped, IsBody, live}
+use Rattle.files_model.specs.Files.{Node, sectors_of, clipped, live}
 use Rattle.files_model.specs.Permission as permission
 use Rattle.files_model.specs.Step.{attr_of, with_node, at_live, unless, setattr_refusal, setattr_row, step}
-use Rattle.files_model.specs.Torn.{Asked, after_calls}
+use Rattle.files_model.specs.Torn.{Asked}
 use Rattle.stable.specs.Puts.{put_all}
 use Rattle.stable.specs.Store.{Image}
-use Rattle.v7_map.specs.Frame.{Frame, Head, Place, Body, Single, Double, head_of, is_directory, address_of, listed, frame}
+use Rattle.v7_map.specs.Frame.{Frame, Place, Body, Single, Double, head_of, is_directory, address_of, listed, frame}
 use Rattle.v7_map.specs.Found.{IsFile}
-use Rattle.v7_map.specs.Image.{IsImage, sector_at, inode_at, inode_sector, inode_offset, isize_of, fsize_of}
+use Rattle.v7_map.specs.Image.{IsImage, sector_at, inode_at, inode_sector, inode_offset, isize_of}
 use Rattle.v7_map.specs.Plan.{PutsInode}
 use Rattle.v7_map.specs.Plans.{IsPlanOf}
 use Rattle.v7_map.specs.Stored.{is_standing, stored_attr}
-use Rattle.v7_map.specs.View.{view, node_at, kind_of}
-use Rattle.v7_map.specs.Weak.{IsStrong, IsWeak}
+use Rattle.v7_map.specs.View.{view, node_at}
+use Rattle.v7_map.specs.Weak.{IsStrong}
 use Rattle.v7_map.specs.declared.found.Found.{Found}
 use Rattle.v7_map.proofs.AnyFrame.{frame-IsFrame}
-use Rattle.v7_map.proofs.Data.{same_inode}
 use Rattle.v7_map.proofs.Prefixes.{put_all-append}
 use Rattle.v7_map.proofs.Puts.{put_all-below}
 use Rattle.v7_map.proofs.Ranges.{inode_sector-inside}
@@ -42,19 +40,16 @@ use Rattle.v7_map.proofs.Splices.{PutsInode-bytes}
 use Rattle.v7_map.proofs.Standing.{live-standing, attr_of-stored}
 use Rattle.v7_map.proofs.Walks.{any_at, among-range}
 use Rattle.v7_sets.specs.Sets.{AreSetsOf}
-use Rattle.v7_plans.specs.Quiet.{AllQuiet}
 use Rattle.v7_plans.specs.Resizing.{StoresNode, KeepsBlocks, IsCut, IsCleanTo, CutsAddresses, AreLeft, AreSet}
 use Rattle.v7_plans.specs.Setting.{put_inode}
 use Rattle.v7_plans.proofs.Quieting.{quiet-frame, quiet-inodes}
 use Rattle.v7_plans.proofs.Setattr.{setattr-sets, accepted-size}
 use Rattle.v7_plans.proofs.SetPlans.{setattr-plan, shorter-file, clean-shorter}
-use Rattle.plan_file.specs.declared.places.Places.{Places}
 use Rattle.plan_file.specs.Contents.{MapPuts, none, one}
 use Rattle.plan_file.specs.Found.{ReplacesInode}
-use Rattle.plan_file.specs.Free.{AreFree}
 use Rattle.plan_file.specs.Grown.{stored_inode}
 use Rattle.plan_file.specs.Set.{zero_puts, AreKeptPuts, AreShorterPuts, AreSetPuts, kept, shorter, given, IsPlannedSet}
-use Rattle.plan_file.specs.Shorter.{AreCut, AreDropped, LeftPuts, gone, left, is_dropped}
+use Rattle.plan_file.specs.Shorter.{LeftPuts, gone, left, is_dropped}
 use Rattle.plan_file.proofs.Freed.{free-of, sets-after}
 use Rattle.plan_file.proofs.Giving.{length-given, given-free}
 use Rattle.plan_file.proofs.Known.{inode_is, used, live_is, read_only-is, at_single, at_body}

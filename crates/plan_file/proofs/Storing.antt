@@ -1,5 +1,5 @@
 -- The inode of a file after a SETATTR.
-use Rattle.std.proofs.Common.{◌≡◌, ◌≢◌, ℕ, ◌+◌, ◌*◌, ◌/◌, ◌%◌, ◌<◌, ◌≤◌, Bool, true, false, cond, not, ◌||◌, ◌==◌, List, length, get_or, refl, sym, ap, subst, ◌∙◌, arith, ⊎_elim, eqb, Option, Some, None, is_some}
+use Rattle.std.proofs.Common.{◌≡◌, ℕ, ◌+◌, ◌*◌, ◌/◌, ◌%◌, ◌<◌, ◌≤◌, Bool, true, false, not, ◌||◌, List, refl, sym, ap, ◌∙◌, arith, eqb, Option, Some, None}
 use Rattle.std.proofs.lemmas.Bool.{eqb-true, ne_eqb}
 use Rattle.std.specs.Option.{unwrap_or, option_map}
 use Rattle.v7_layout.specs.declared.inode.Inode.{Inode}

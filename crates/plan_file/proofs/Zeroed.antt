@@ -1,5 +1,5 @@
 -- Zeros past a size that grows, put before the inode: they don't show, and afterwards nothing stands past the old size.
-use Rattle.std.proofs.Common.{◌≡◌, ◌≢◌, ◌⊎◌, ℕ, ◌+◌, ◌-◌, ◌*◌, ◌/◌, ◌%◌, ◌<◌, ◌≤◌, Bool, true, false, cond, not, ◌==◌, List, [], ◌∷◌, length, drop, replicate, set, refl, sym, ap, subst, ◌∙◌, arith, ⊎_elim, inl, inr, ltb, drop_of_length-le, get_or-set_same, get_or-set_other}
+use Rattle.std.proofs.Common.{◌≡◌, ◌≢◌, ◌⊎◌, ℕ, ◌+◌, ◌-◌, ◌*◌, ◌/◌, ◌%◌, ◌<◌, ◌≤◌, true, false, cond, not, ◌==◌, List, [], ◌∷◌, length, replicate, set, sym, ap, subst, ◌∙◌, arith, ⊎_elim, inl, inr, drop_of_length-le, get_or-set_same, get_or-set_other}
 use Rattle.std.proofs.lemmas.Bool.{cases_eq, cases_lt, lt-ltb, le-ltb}
 use Rattle.std.specs.List.{AllByRecursion}
 use Rattle.files_model.specs.Files.{sectors_of, clipped}
@@ -10,14 +10,12 @@ use Rattle.v7_layout.specs.declared.inode.Inode.{Inode}
 use Rattle.v7_map.specs.Frame.{Place, Body, is_directory, frame}
 use Rattle.v7_map.specs.Image.{IsImage, sector_at, inode_at, isize_of}
 use Rattle.v7_map.specs.Stored.{sector_in, stored_sector}
-use Rattle.v7_map.specs.Weak.{IsStrong, IsWeak}
+use Rattle.v7_map.specs.Weak.{IsStrong}
 use Rattle.v7_map.proofs.Contents.{sector-some}
 use Rattle.v7_map.proofs.Ranges.{address-inside}
 use Rattle.v7_map.proofs.SectorOf.{sector_in-address}
 use Rattle.v7_plans.specs.Quiet.{AllQuiet, IsQuiet}
-use Rattle.v7_plans.specs.Resizing.{IsCleanTo}
 use Rattle.v7_plans.proofs.CutQuiet.{cut-quiet}
-use Rattle.v7_plans.proofs.Quieting.{quiet-frame}
 use Rattle.v7_plans.proofs.SetPlans.{clean-shorter}
 use Rattle.plan_file.specs.Set.{held_put, zero_puts}
 use Rattle.plan_file.proofs.Zeros.{zeros-lower, zeros-even, zeros-cut}

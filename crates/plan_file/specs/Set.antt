@@ -1,5 +1,5 @@
 -- The plan of a SETATTR.
-use Rattle.std.specs.Prelude.{◌≡◌, ◌≢◌, ◌<◌, ◌≤◌, ℕ, ◌/◌, ◌%◌, min, Bool, true, List, [], ◌∷◌, ◌++◌, length, set, not, ◌==◌, ◌&&◌, nat_lt, if◌then◌else◌}
+use Rattle.std.specs.Prelude.{◌≡◌, ◌<◌, ◌≤◌, ℕ, ◌/◌, ◌%◌, min, Bool, true, List, [], ◌∷◌, ◌++◌, length, set, not, ◌==◌, ◌&&◌, nat_lt, if◌then◌else◌}
 use Rattle.files_model.specs.declared.attributes.Attr.{Attr}
 use Rattle.files_model.specs.declared.attributes.FileId.{FileId}
 use Rattle.files_model.specs.declared.attributes.Sattr.{Sattr}

@@ -1,6 +1,6 @@
 // The plan of a batch of writes to one file.
 
-ghost use Rattle.std.specs.Prelude.{◌≡◌, ◌<◌, ◌≤◌, ℕ, [], length, replicate, true, not, min, IfOk, OnOk, OnErr, IsErrOf};
+ghost use Rattle.std.specs.Prelude.{◌≡◌, ◌<◌, ◌≤◌, [], length, replicate, true, not, IfOk, OnOk, OnErr, IsErrOf};
 ghost use Rattle.std.specs.List.{list_any};
 ghost use Rattle.files_model.specs.Space.{size_limit};
 ghost use Rattle.files_model.specs.Step.{is_refused};
@@ -14,7 +14,6 @@ ghost use Rattle.v7_map.specs.Image.{inode_sector};
 ghost use Rattle.v7_map.specs.Weak.{IsStrong};
 ghost use Rattle.v7_sets.specs.Sets.{AreSetsOf};
 ghost use Rattle.plan_file.specs.Accepted.{kept_of};
-ghost use Rattle.plan_file.specs.Contents.{Fits};
 ghost use Rattle.plan_file.specs.Free.{TakesBlocks};
 ghost use Rattle.plan_file.specs.Planned.{AreBatchPuts, IsReady, IsPlanned, CanBePut, HasAnswers};
 

@@ -1,15 +1,12 @@
 // The plan of a SETATTR.
 
-ghost use Rattle.std.specs.Prelude.{◌≡◌, ◌≢◌, ◌<◌, ◌≤◌, ◌^◌, ℕ, [], length, All, ◌++◌, IfOk, OnOk, IsErrOf};
-ghost use Rattle.files_model.specs.Space.{size_limit};
+ghost use Rattle.std.specs.Prelude.{◌≡◌, ◌≢◌, ◌<◌, ◌≤◌, ℕ, [], length, ◌++◌, IfOk, OnOk, IsErrOf};
 ghost use Rattle.files_model.specs.declared.reply.Reply.TheVariants as reply;
 ghost use Rattle.stable.specs.Counts.{HasCause, Rose};
 ghost use Rattle.stable.specs.Looked.{Looked};
-ghost use Rattle.v7_layout.specs.Written.{AddressesFit};
 ghost use Rattle.v7_map.specs.Found.{IsFile};
 ghost use Rattle.v7_map.specs.Frame.{frame};
 ghost use Rattle.v7_map.specs.Image.{inode_sector};
-ghost use Rattle.v7_map.specs.Stored.{sector_in, stored_sector};
 ghost use Rattle.v7_map.specs.Weak.{IsStrong};
 ghost use Rattle.plan_file.specs.Contents.{Fits};
 ghost use Rattle.plan_file.specs.Planned.{CanBePut, IsWriteReply};

@@ -1,10 +1,8 @@
-use Rattle.std.proofs.Common.{arith, ◌≡◌, ◌≢◌, ◌<◌, ◌≤◌, ℕ, min, [], ◌∷◌, ◌++◌, length, refl, sym, ap, subst, ◌∙◌}
+use Rattle.std.proofs.Common.{arith, ◌≡◌, ℕ, min, [], ◌∷◌, ◌++◌, length, sym, ap, subst, ◌∙◌}
 use Rattle.stable.specs.Store.{Image}
-use Rattle.v7_map.specs.Image.{inode_sector}
 use Rattle.v7_map.proofs.Whole.{as_long}
 use Rattle.plan_file.specs.Places.{ArePlaces}
 use Rattle.plan_file.specs.Found.{ReplacesInode}
-use Rattle.plan_file.specs.declared.places.Places.{Places}
 use Rattle.plan_file.specs.Shorter.{AreCut}
 use Rattle.plan_file.proofs.Adding.{fits-none, fits-one, fits-then, fits-put}
 use Rattle.plan_file.proofs.set_plan.add_shorter.Goals as goal

@@ -1,4 +1,4 @@
-use Rattle.std.proofs.Common.{[], sym, subst}
+use Rattle.std.proofs.Common.{sym, subst}
 use Rattle.plan_file.specs.Set.{AreSetPuts, kept, shorter}
 use Rattle.plan_file.proofs.set_plan.put_set.Goals as goal
 

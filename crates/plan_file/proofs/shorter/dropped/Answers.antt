@@ -1,4 +1,4 @@
-use Rattle.std.proofs.Common.{rules, arith, ◌≡◌, ◌+◌, ℕ, get_or, sym, subst, ◌∙◌, true, false}
+use Rattle.std.proofs.Common.{rules, arith, ◌≡◌, ℕ, get_or, sym, subst, ◌∙◌, true, false}
 use Rattle.plan_file.specs.Shorter.{is_dropped, AreDropped}
 use Rattle.plan_file.proofs.Dropping.{dropped-none, dropped-same, dropped-more}
 use Rattle.plan_file.proofs.shorter.dropped.Goals as goal
