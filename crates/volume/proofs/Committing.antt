@@ -3,12 +3,9 @@ use Rattle.std.proofs.Common.{◌≡◌, ℕ, ◌≤◌, Bool, true, false, List
 use Rattle.files_model.specs.declared.attributes.FileId.{FileId}
 use Rattle.files_model.specs.declared.call.Call.TheVariants.{Write}
 use Rattle.files_model.specs.declared.call.WriteItem.{WriteItem}
-use Rattle.files_model.specs.declared.reply.Reply.{Reply}
-use Rattle.files_model.specs.Batch.{calls_of}
 use Rattle.files_model.specs.Files.{Files}
 use Rattle.files_model.specs.Torn.{Asked}
 use Rattle.plan_file.specs.Free.{TakesBlocks}
-use Rattle.plan_file.specs.Planned.{IsPlanned}
 use Rattle.stable.specs.Looked.{Looked}
 use Rattle.stable.specs.Moments.{IsClocked, LeavesOnly}
 use Rattle.stable.specs.Puts.{put_all, AfterSome, AllPastSuperBlock}
@@ -37,10 +34,10 @@ use Rattle.volume.proofs.Naming.{name_same, name_planned}
 -- with fewer free blocks they fit as well
 pub fewer_fit : (sectors sectors' : ℕ) (old new : Sets) → sectors' ≡ sectors → TakesBlocks old new → FitStore sectors old.blocks old.inodes → FitStore sectors' new.blocks new.inodes
 fewer_fit sectors sectors' old new as_many fewer fit = subst (λ (n : ℕ). FitStore n new.blocks new.inodes) (sym as_many) (record {
-    two = fit.two;
-    within = λ b free. fit.within b (fewer.blocks b free);
-    numbers = subst (λ (l : List Bool). length l ≤ 65529) (sym fewer.inodes) fit.numbers;
-  })
+  two = fit.two;
+  within = λ b free. fit.within b (fewer.blocks b free);
+  numbers = subst (λ (l : List Bool). length l ≤ 65529) (sym fewer.inodes) fit.numbers;
+})
 
 module _ (image : Image) (calls : List Asked) (now : ℕ) (puts : List (ℕ × List ℕ)) (plan : IsPlanOf image calls now puts) where
   -- some of a plan was put

@@ -32,12 +32,13 @@ pub fn setattr<S: Stable>(
     ensures sectors { S.sector_count store.new ≡ S.sector_count store.old }
     ensures snapshot { CostsAtMost S.Stable store.old store.new false plan_puts plan_puts }
 {
-    let PlannedSet { plan, reply, freed } =
-        match plan_setattr(alloc, store, file, wanted, cred, now) {
-            Ok(planned) => planned,
-            Err(PlanFault::Failed) => return Outcome::Io,
-            Err(PlanFault::NoMemory) => return Outcome::NoMemory,
-        };
+    let PlannedSet { plan, reply, freed } = match plan_setattr(
+        alloc, store, file, wanted, cred, now,
+    ) {
+        Ok(planned) => planned,
+        Err(PlanFault::Failed) => return Outcome::Io,
+        Err(PlanFault::NoMemory) => return Outcome::NoMemory,
+    };
     match run_plan(store, &plan) {
         Ok(()) => {
             give_back(&mut sets.blocks, freed.as_slice(), store.sectors());

@@ -265,7 +265,9 @@ fn what_a_smaller_size_cuts_off_comes_back_as_zeros(rt: HostRuntime) -> Result<(
     assert!(rt; matches!(grown, Outcome::Reply(Reply::Attr(attr)) if attr.size == 65_536));
     assert!(rt; used(&mut volume)? == 18);
     let cut = resize(&mut volume, 65_000);
-    assert!(rt; matches!(cut, Outcome::Reply(Reply::Attr(attr)) if attr.size == 65_000 && attr.mtime == 2002));
+    assert!(rt;
+        matches!(cut, Outcome::Reply(Reply::Attr(attr)) if attr.size == 65_000 && attr.mtime == 2002)
+    );
     assert!(rt; used(&mut volume)? == 17);
     assert!(rt; holds(&mut volume, 57_344, 8192, &[b'x'; 7656]));
     let back = resize(&mut volume, 65_536);
