@@ -1,6 +1,7 @@
 /* client PORT CALL COUNT MILLISECONDS: makes that NFS call on file 3 of volume 0 again and again, each once the reply of the one
    before has come, and prints how many a second were answered. It ends at so many calls or milliseconds, whichever comes first,
-   and fails at a reply that isn't the call's, or that doesn't come within two seconds. */
+   and fails at a reply that isn't the call's, or that doesn't come within two seconds. A call `grow512` writes 512 bytes at the
+   file's end; at its greatest length, and at first, a SETATTR cuts it off, whose time counts. */
 #include <arpa/inet.h>
 #include <stdint.h>
 #include <stdio.h>
@@ -11,7 +12,7 @@
 #include <time.h>
 #include <unistd.h>
 
-enum { GETATTR = 1, READ = 6, WRITE = 8, MOST = 9216, REPLY = 96 };
+enum { GETATTR = 1, SETATTR = 2, READ = 6, WRITE = 8, MOST = 9216, REPLY = 96, PROCEDURE = 20, ARGUMENTS = 96, SECTORS = 138 };
 
 static unsigned char call[MOST], reply[MOST];
 static size_t call_length;
@@ -43,7 +44,7 @@ static size_t make_call(const char *name) {
         put(0);
         return REPLY + 4 + 8192;
     }
-    uint32_t length = strcmp(name, "write512") == 0 ? 512 : 8192;
+    uint32_t length = strcmp(name, "write8192") == 0 ? 8192 : 512;
     put(0);
     put(0);
     put(length);
@@ -78,6 +79,33 @@ static void ask(int link, uint32_t number, size_t wanted) {
             fail("a call was refused");
 }
 
+static void put_at(size_t place, uint32_t word) {
+    size_t length = call_length;
+    call_length = place;
+    put(word);
+    call_length = length;
+}
+
+/* The next sector of a file that grows, the first one after a SETATTR of size 0. */
+static void grow(int link, uint32_t number) {
+    static uint32_t sector;
+    if (sector == 0) {
+        unsigned char write[MOST];
+        size_t length = call_length;
+        memcpy(write, call, length);
+        put_at(PROCEDURE, SETATTR);
+        for (int i = 0; i < 8; i++)
+            put_at(ARGUMENTS + 4 * i, i == 3 ? 0 : UINT32_MAX);
+        call_length = ARGUMENTS + 32;
+        ask(link, number + (1u << 31), REPLY);
+        memcpy(call, write, length);
+        call_length = length;
+    }
+    put_at(ARGUMENTS + 4, 512 * sector);
+    ask(link, number, REPLY);
+    sector = (sector + 1) % SECTORS;
+}
+
 int main(int count, char **words) {
     if (count != 5)
         fail("usage: client PORT CALL COUNT MILLISECONDS");
@@ -89,11 +117,15 @@ int main(int count, char **words) {
     if (connect(link, (struct sockaddr *)&to, sizeof to) != 0)
         fail("no socket");
     size_t wanted = make_call(words[2]);
+    int grows = strcmp(words[2], "grow512") == 0;
     uint32_t most = (uint32_t)atol(words[3]), calls = 0;
     double start = now(), end = start + atol(words[4]) / 1e3, at = start;
     while (calls < most && at < end) {
         calls++;
-        ask(link, calls, wanted);
+        if (grows)
+            grow(link, calls);
+        else
+            ask(link, calls, wanted);
         at = now();
     }
     printf("%.0f\n", calls / (at - start));

@@ -1,6 +1,7 @@
 /* plain PORT FILE, plain PORT FILE BUFFERS: answers each call by a reply of the same length as the server's, whose words
    but the first two are 0, and before that makes the positioned writes and data syncs that the server makes: for each sector of a
-   WRITE, and for the inode's, one of 512 bytes into the disk, or one of 512 bytes and one of 8 into the board. It reads nothing.
+   WRITE, for the block of addresses where that grows, and for the inode's, one of 512 bytes into the disk, or one of 512 bytes
+   and one of 8 into the board; and for the inode's of a SETATTR. It reads nothing.
    It ends where nothing has come for twenty seconds. */
 #include <arpa/inet.h>
 #include <fcntl.h>
@@ -12,7 +13,7 @@
 #include <sys/time.h>
 #include <unistd.h>
 
-enum { READ = 6, WRITE = 8, MOST = 9216, REPLY = 96, HEAD = 112, FIRST_BLOCK = 5 };
+enum { SETATTR = 2, READ = 6, WRITE = 8, MOST = 9216, REPLY = 96, HEAD = 112, OFFSET = 100, DIRECT = 10 * 512, FIRST_BLOCK = 5 };
 
 static unsigned char call[MOST], reply[REPLY + 4 + 8192];
 static int file, buffers;
@@ -49,8 +50,15 @@ static size_t serve(void) {
         int sectors = (int)word_at(108) / 512;
         for (int i = 0; i < sectors; i++)
             put(i, FIRST_BLOCK + i);
+        if (word_at(OFFSET) >= DIRECT)
+            {
+            put(sectors, FIRST_BLOCK + sectors);
+            sectors++;
+        }
         put(sectors, 2);
     }
+    if (procedure == SETATTR)
+        put(0, 2);
     return REPLY;
 }
 

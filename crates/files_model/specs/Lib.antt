@@ -6,3 +6,4 @@ pub mod Torn
 pub mod History
 pub mod Among
 pub mod Batch
+pub mod Attributes

@@ -1,10 +1,12 @@
 -- What a call answers, and the files that it leaves: one row a call (docs/CALLS.md). The rows grow; `has_row` says which stand.
-use Rattle.std.specs.Prelude.{ℕ, ◌+◌, ◌-◌, ◌*◌, ◌/◌, max, min, Bool, true, false, List, [], ◌∷◌, ◌++◌, length, take, drop, replicate, map, Option, Some, None, ◌==◌, nat_lt, if◌then◌else◌, not, ◌&&◌}
+use Rattle.std.specs.Prelude.{ℕ, ◌+◌, ◌-◌, ◌*◌, ◌/◌, max, min, Bool, true, false, List, [], ◌∷◌, ◌++◌, length, take, drop, replicate, map, Option, Some, None, ◌==◌, nat_lt, is_some, if◌then◌else◌, not, ◌&&◌, ◌||◌}
 use Rattle.std.specs.List.{range_with_len, flat_map}
 use Rattle.std.specs.Option.{unwrap_or}
 use Rattle.std.specs.FinMap.{get, insert}
 use Rattle.files_model.specs.declared.attributes.FileId.{FileId}
 use Rattle.files_model.specs.declared.attributes.Attr.{Attr}
+use Rattle.files_model.specs.declared.attributes.Sattr.{Sattr}
+use Rattle.files_model.specs.Attributes.{set_node, is_root, is_owner, is_other, is_own_group, sets_owned, is_above}
 use Rattle.files_model.specs.declared.credential.Cred.{Cred}
 use Rattle.files_model.specs.declared.permission.Want.TheVariants as want
 use Rattle.files_model.specs.declared.reply.Stat.{Stat}
@@ -117,9 +119,26 @@ read_row files file offset count cred = at_live files (live files file) (λ n.
     unless files (read_refusal file n cred)
     (reply.Data (attr_of file.ino n) (take (min count most_read) (drop offset (content n))), files))
 
+-- the refusals of SETATTR in their order, by the attributes of its file
+abbrev pub setattr_refusal : Bool → Attr → Sattr → Cred → Option Stat
+setattr_refusal read_only attr set cred = first_of (
+    (read_only, stat.Rofs) ∷ (is_some set.size && is_directory attr.kind, stat.Isdir) ∷ (is_some set.size && is_link attr.kind, stat.Nxio)
+    ∷ (sets_owned set && not (is_owner cred attr || is_root cred), stat.Perm)
+    ∷ (is_other set.uid attr.uid && not (is_root cred), stat.Perm)
+    ∷ (is_other set.gid attr.gid && not (is_root cred || (is_owner cred attr && is_own_group cred set.gid)), stat.Perm)
+    ∷ (is_some set.size && not (allows cred attr want.Write), stat.Acces)
+    ∷ (is_above set.size size_limit, stat.Fbig) ∷ [])
+
+-- SETATTR (RFC 1094 2.2.3)
+unfoldable pub setattr_row : Files → FileId → Sattr → Cred → ℕ → Reply × Files
+setattr_row files file set cred now = at_live files (live files file) (λ n.
+    unless files (setattr_refusal files.read_only (attr_of file.ino n) set cred)
+    (reply.Attr (attr_of file.ino (set_node n set now)), with_node files file.ino (set_node n set now)))
+
 -- the calls that have a row; a history has no other call
 abbrev pub has_row : Call → Bool
 has_row (call.Getattr file) = true
+has_row (call.Setattr file set) = true
 has_row (call.Read file offset count) = true
 has_row (call.Write file offset bytes) = true
 has_row _ = false
@@ -127,6 +146,7 @@ has_row _ = false
 -- what a call answers at this time, and the files that it leaves
 abbrev pub step : Files → Call → Cred → ℕ → Reply × Files
 step files (call.Getattr file) cred now = getattr_row files file
+step files (call.Setattr file set) cred now = setattr_row files file set cred now
 step files (call.Read file offset count) cred now = read_row files file offset count cred
 step files (call.Write file offset bytes) cred now = write_row files file offset bytes cred now
 step files _ cred now = (reply.Refused stat.Stale, files)

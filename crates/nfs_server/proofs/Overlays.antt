@@ -19,6 +19,8 @@ use Rattle.presto_unit.specs.declared.presto.Presto.{Presto}
 use Rattle.v7_map.specs.Frame.{frame}
 use Rattle.v7_map.specs.View.{view}
 use Rattle.v7_map.specs.Weak.{IsWeak}
+use Rattle.volume.specs.Keeps.{SameName}
+use Rattle.volume.specs.Opens.{name_in}
 use Rattle.nfs_worker.specs.Account.{Hold, history, Grew, HasGrown, IsRecovered, MarksWithin, Lasts}
 use Rattle.nfs_worker.proofs.Accounts.{recovered_left, marks_later}
 use Rattle.run_lines.specs.Overlays.{overlay_of, overlays_of}
@@ -40,6 +42,7 @@ module _ {R : Type 0} (r : Ghosts R) (clocked : IsClocked r.tells r.contents r.m
             let same : image ≡ overlay_of r rig = left.2.2 ∙ (refused.crash.each left.0 left.1).image left.2.0 left.2.1 in
             subst (λ (i : Image). IsRecovered (view (overlay_of r rig)) [] i) (sym same) (record { weak = weak; stands = refl });
         lasts = λ tells weak. tt;
+        named = λ tells. ap (λ (i : Image). name_in i) (same_overlay r clocked sizes refused.crash tells);
         opens = λ opens. still_opens r clocked sizes refused.crash (r.moment rig) (omega arith) (opens_now r clocked rig opens);
       }
 
@@ -86,5 +89,6 @@ module _ {R : Type 0} (r : Ghosts R) (clocked : IsClocked r.tells r.contents r.m
           lasts = λ tells weak. lasts_shown (told_since tells) (r.moment rig) (r.moment v) (omega arith) (view (overlay_of r rig)) holds
               (marks_later (r.moment rig) (r.moment u) (r.moment v) holds begun grew.marked)
               (subst (λ (i : Image). Lasts (overlays_since r.sizes r.left_since v) (view i) holds) (same tells) (grew.lasts tells (subst (λ (i : Image). IsWeak (frame i)) (sym (same tells)) weak)));
+          named = λ tells. subst (λ (i : Image). SameName i (overlay_of r v)) (same tells) (grew.named tells);
           opens = since;
         }

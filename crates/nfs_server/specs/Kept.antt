@@ -16,6 +16,7 @@ use Rattle.v7_map.specs.Weak.{IsWeak}
 use Rattle.v7_damage.specs.Undamaged.{IsFaultOf}
 use Rattle.v7_damage.specs.declared.damage.RepairFault.{RepairFault}
 use Rattle.v7_damage.specs.declared.damage.RepairFault.TheVariants as repair
+use Rattle.volume.specs.Keeps.{SameName}
 use Rattle.volume.specs.Opens.{name_in, root_in}
 use Rattle.run_lines.specs.Overlays.{overlay_of, overlays_of}
 use Rattle.nfs_worker.specs.Account.{Hold, history, HasGrown, IsRecovered, MarksWithin, Lasts}
@@ -35,6 +36,8 @@ pub record Kept {R : Type 0} (r : Ghosts R) (rig back : R) (holds : List Hold) :
   pub crash : (image : Image) → overlays_of r back (r.moment rig) image → IsWeak (frame (overlay_of r rig)) → IsRecovered (view (overlay_of r rig)) holds image
   -- and one since a hold's mark has that hold
   pub lasts : r.tells → IsWeak (frame (overlay_of r rig)) → Lasts (overlays_of r back) (view (overlay_of r rig)) holds
+  -- the volume's name stays
+  pub named : r.tells → SameName (overlay_of r rig) (overlay_of r back)
   -- what could be opened can be opened again after a sound crash at any moment
   pub opens : IsOpenable (r.sizes rig) (r.contents rig) → opens_since r.sizes r.left_since back (r.moment rig)
 

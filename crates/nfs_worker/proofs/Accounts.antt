@@ -7,13 +7,14 @@ use Rattle.stable.specs.Counts.{RoseBy}
 use Rattle.stable.specs.Moments.{IsClocked, LeavesOnly}
 use Rattle.stable.proofs.Clocked.{started, goes_on, weaker, ends}
 use Rattle.stable.specs.Looked.{KeepsImage}
-use Rattle.stable.specs.Store.{Image, StaysOpenable}
+use Rattle.stable.specs.Store.{Image, StaysOpenable, name_in}
 use Rattle.stable.specs.declared.store.Stable.{Ghosts}
 use Rattle.v7_map.specs.Frame.{frame}
+use Rattle.v7_map.specs.Image.{sector_at}
 use Rattle.v7_map.specs.View.{view}
 use Rattle.v7_map.specs.Weak.{IsWeak}
 use Rattle.v7_mend.specs.Keeps.{SameFiles}
-use Rattle.volume.specs.Keeps.{MayOpen, SameVolume}
+use Rattle.volume.specs.Keeps.{MayOpen, SameName, SameVolume}
 use Rattle.nfs_worker.specs.Account.{Hold, history, StandsFor, IsRecovered, Lasts, MarksWithin, HasGrown, Grew}
 
 pub after-append : (files : Files) (xs ys : List Event) → after files (xs ++ ys) ≡ after (after files xs) ys
@@ -87,7 +88,14 @@ rose_both m n a b c p q = omega (arith, p, q)
 kept : (old image : Image) → image ≡ old → IsWeak (frame old) → SameFiles old image
 kept old image is weak = subst (λ (x : Image). SameFiles old x) (sym is) (record { weak = weak; view = refl })
 
+same-name : (old image : Image) → image ≡ old → SameName old image
+same-name old image is = ap (λ (x : Image). name_in (sector_at x 1)) is
+
 -- at a moment of an opening
+opened-name : (old image : Image) → MayOpen old image → SameName old image
+opened-name old image (inl is) = same-name old image is
+opened-name old image (inr same) = same.name
+
 mended : (old image : Image) → MayOpen old image → IsWeak (frame old) → SameFiles old image
 mended old image (inl is) weak = kept old image is weak
 mended old image (inr same) weak = same.files
@@ -101,6 +109,7 @@ module _ {S : Type 0} (s : Ghosts S) (clocked : IsClocked s.tells s.image s.mome
     marked = omega arith;
     crash = started clocked old _ (λ told weak. record { weak = weak; stands = refl });
     lasts = λ told weak. tt;
+    named = λ told. refl;
     opens = λ told t le opens. opens;
   }
 
@@ -109,9 +118,10 @@ module _ {S : Type 0} (s : Ghosts S) (clocked : IsClocked s.tells s.image s.mome
       → (s.tells → IsWeak (frame (s.image old)) → HasGrown (view (s.image old)) (s.image new) events)
       → RoseBy (failures events) (s.faults old) (s.faults new)
       → LeavesOnly s.moment s.left_since old new (λ d. IsWeak (frame (s.image old)) → IsRecovered (view (s.image old)) (record { events = events; mark = s.moment new } ∷ []) d)
+      → (s.tells → SameName (s.image old) (s.image new))
       → (s.tells → StaysOpenable s.opens_since s.moment old new)
       → Grew s old new (record { events = events; mark = s.moment new } ∷ [])
-  grew_hold old new events grown io crash opens =
+  grew_hold old new events grown io crash named opens =
       let all : events ++ [] ≡ events = append-nil events in
       record {
         grown = λ told weak. subst (λ (es : List Event). HasGrown (view (s.image old)) (s.image new) es) (sym all) (grown told weak);
@@ -125,18 +135,20 @@ module _ {S : Type 0} (s : Ghosts S) (clocked : IsClocked s.tells s.image s.mome
               subst (λ (x : Image). IsRecovered (after (view (s.image old)) events) [] x) (sym same) (record { weak = g.weak; stands = g.view_is })),
           tt,
         );
+        named = named;
         opens = opens;
       }
 
   -- device calls without a hold, as those of a look, a repair, an opening and a stopping: the files stay
   pub grew_same : {old new : S} → (s.tells → IsWeak (frame (s.image old)) → SameFiles (s.image old) (s.image new)) → s.faults old ≤ s.faults new
-      → LeavesOnly s.moment s.left_since old new (λ d. IsWeak (frame (s.image old)) → SameFiles (s.image old) d) → (s.tells → StaysOpenable s.opens_since s.moment old new) → Grew s old new []
-  grew_same {old} {new} same later crash opens = record {
+      → LeavesOnly s.moment s.left_since old new (λ d. IsWeak (frame (s.image old)) → SameFiles (s.image old) d) → (s.tells → SameName (s.image old) (s.image new)) → (s.tells → StaysOpenable s.opens_since s.moment old new) → Grew s old new []
+  grew_same {old} {new} same later crash named opens = record {
     grown = λ told weak. let files = same told weak in record { legal = tt; view_is = files.view; weak = files.weak };
     io = omega (arith, later);
     marked = crash.later;
     crash = weaker crash (λ d left is weak. let files = is weak in record { weak = files.weak; stands = files.view });
     lasts = λ told weak. tt;
+    named = named;
     opens = opens;
   }
 
@@ -146,6 +158,7 @@ module _ {S : Type 0} (s : Ghosts S) (clocked : IsClocked s.tells s.image s.mome
       (λ told weak. kept (s.image old) (s.image new) (keeps.image told) weak)
       keeps.later
       (weaker keeps.crash (λ d left is weak. kept (s.image old) d is weak))
+      (λ told. same-name (s.image old) (s.image new) (keeps.image told))
       (λ told. keeps.opens)
 
   -- an opening, done or refused: at each moment nothing has changed, or the files are the same
@@ -155,11 +168,12 @@ module _ {S : Type 0} (s : Ghosts S) (clocked : IsClocked s.tells s.image s.mome
       (λ told weak. mended (s.image old) (s.image new) (ends clocked crash told) weak)
       later
       (weaker crash (λ d left is weak. mended (s.image old) d is weak))
+      (λ told. opened-name (s.image old) (s.image new) (ends clocked crash told))
       opens
 
   -- a stopping: the files are the same
   pub grew_stopped : {old new : S} → s.faults old ≤ s.faults new → LeavesOnly s.moment s.left_since old new (SameVolume (s.image old)) → (s.tells → StaysOpenable s.opens_since s.moment old new) → Grew s old new []
-  grew_stopped {old} {new} later crash opens = grew_same (λ told weak. (ends clocked crash told).files) later (weaker crash (λ d left is weak. is.files)) opens
+  grew_stopped {old} {new} later crash opens = grew_same (λ told weak. (ends clocked crash told).files) later (weaker crash (λ d left is weak. is.files)) (λ told. (ends clocked crash told).name) opens
 
   -- one run of holds and then another
   pub grew_both : {a b c : S} (xs ys : List Hold) → Grew s a b xs → Grew s b c ys → Grew s a c (xs ++ ys)
@@ -184,6 +198,7 @@ module _ {S : Type 0} (s : Ghosts S) (clocked : IsClocked s.tells s.image s.mome
         (λ t d early left. q.crash.before t d early left)
         (λ d left. q.crash.each d left g.weak)
         p.marked (p.lasts told weak) (q.lasts told g.weak);
+    named = λ told. q.named told ∙ p.named told;
     opens = λ told t le opens. q.opens told t (omega (arith, le, p.crash.later)) (p.opens told t le opens);
   }
 

@@ -11,7 +11,7 @@ use Rattle.files_model.specs.History.Event.{Done, Failed}
 use Rattle.stable.specs.Store.{StaysOpenable}
 use Rattle.stable.specs.declared.store.Stable.{Ghosts}
 use Rattle.stable.specs.Moments.{IsClocked}
-use Rattle.stable.proofs.Clocked.{weaker}
+use Rattle.stable.proofs.Clocked.{weaker, ends}
 use Rattle.v7_map.specs.Frame.{frame}
 use Rattle.v7_map.specs.View.{view}
 use Rattle.v7_map.specs.Weak.{IsWeak}
@@ -29,6 +29,9 @@ pub reply_fits : (xid : ℕ) (c : Call) (r : Reply) → has_row c ≡ true → H
 reply_fits xid (call.Getattr file) (reply.Refused status) row form = let fits = short_fits xid (reply.Refused status) 0 tt in omega (arith, fits)
 reply_fits xid (call.Getattr file) (reply.Attr attr) row form = let fits = short_fits xid (reply.Attr attr) 0 tt in omega (arith, fits)
 reply_fits xid (call.Getattr file) _ row form = absurd form
+reply_fits xid (call.Setattr file set) (reply.Refused status) row form = let fits = short_fits xid (reply.Refused status) 0 tt in omega (arith, fits)
+reply_fits xid (call.Setattr file set) (reply.Attr attr) row form = let fits = short_fits xid (reply.Attr attr) 0 tt in omega (arith, fits)
+reply_fits xid (call.Setattr file set) _ row form = absurd form
 reply_fits xid (call.Read file offset count) (reply.Refused status) row form = let fits = short_fits xid (reply.Refused status) 0 tt in omega (arith, fits)
 reply_fits xid (call.Read file offset count) (reply.Data attr bytes) row form = data_fits xid attr bytes 0 form
 reply_fits xid (call.Read file offset count) _ row form = absurd form
@@ -52,6 +55,7 @@ module _ {S : Type 0} (s : Ghosts S) (clocked : IsClocked s.tells s.image s.mome
         (λ told found. let done = applied.leaves told in record { legal = ((row, done.0), tt); view_is = done.1; weak = weak told })
         (let cause = applied.cause in omega arith)
         (weaker applied.crash (λ d left at found. record { weak = at.files.weak; stands = inl at.files.torn }))
+        (λ told. (ends clocked applied.crash told).name)
         opens;
     item_is = refl;
     worker_is = refl;
@@ -70,6 +74,7 @@ module _ {S : Type 0} (s : Ghosts S) (clocked : IsClocked s.tells s.image s.mome
             (λ told found. record { legal = (applied.leaves told, tt); view_is = refl; weak = weak told })
             applied.cause.1
             (weaker applied.crash (λ d left at found. record { weak = at.files.weak; stands = inl at.files.torn }))
+            (λ told. (ends clocked applied.crash told).name)
             opens;
         item_is = refl;
         worker_is = refl;
@@ -83,4 +88,5 @@ module _ {S : Type 0} (s : Ghosts S) (clocked : IsClocked s.tells s.image s.mome
       (λ told found. record { weak = weak told; view = applied.leaves told })
       applied.cause
       (weaker applied.crash (λ d left at found. record { weak = at.files.weak; view = at.files.view_is }))
+      (λ told. (ends clocked applied.crash told).name)
       opens

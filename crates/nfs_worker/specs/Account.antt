@@ -11,6 +11,7 @@ use Rattle.stable.specs.declared.store.Stable.{Ghosts}
 use Rattle.v7_map.specs.Frame.{frame}
 use Rattle.v7_map.specs.View.{view}
 use Rattle.v7_map.specs.Weak.{IsWeak}
+use Rattle.volume.specs.Keeps.{SameName}
 
 -- One hold of a volume: the events that it appended, those of a call or of a batch, and its mark, the rig's moment at its end.
 pub record Hold : Type 0 where
@@ -65,5 +66,7 @@ pub record Grew {S : Type 0} (s : Ghosts S) (old new : S) (holds : List Hold) : 
   pub crash : LeavesOnly s.moment s.left_since old new (λ d. IsWeak (frame (s.image old)) → IsRecovered (view (s.image old)) holds d)
   -- and one since a hold's mark has that hold
   pub lasts : s.tells → IsWeak (frame (s.image old)) → Lasts (s.left_since new) (view (s.image old)) holds
+  -- the volume's name stays
+  pub named : s.tells → SameName (s.image old) (s.image new)
   -- what could be opened again still can
   pub opens : s.tells → StaysOpenable s.opens_since s.moment old new

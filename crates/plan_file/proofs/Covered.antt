@@ -1,10 +1,9 @@
 -- A sector whose bytes are all given doesn't depend on what stood there.
-use Rattle.std.proofs.Common.{◌≡◌, ◌≢◌, ℕ, ◌+◌, ◌-◌, ◌*◌, ◌<◌, ◌≤◌, min, Bool, true, false, cond, ◌==◌, List, [], ◌∷◌, ◌++◌, length, take, drop, get_or, refl, sym, ap, ◌∙◌, arith, ⊎_elim, leb, eqb, length-take, length-append, length-drop, drop_of_length-le}
+use Rattle.std.proofs.Common.{◌≡◌, ◌≢◌, ℕ, ◌+◌, ◌-◌, ◌*◌, ◌<◌, ◌≤◌, Bool, true, false, cond, List, [], ◌∷◌, ◌++◌, length, take, drop, get_or, refl, sym, ap, ◌∙◌, arith, ⊎_elim, leb, length-take, length-drop, drop_of_length-le}
 use Rattle.std.proofs.lemmas.Bool.{cases_eq, leb-true, ne_eqb, eq-eqb}
 use Rattle.std.proofs.lemmas.List.{length-replicate}
 use Rattle.std.specs.List.{list_any}
 use Rattle.files_model.specs.declared.call.WriteItem.{WriteItem}
-use Rattle.files_model.specs.Files.{clipped}
 use Rattle.files_model.specs.Step.{spliced, zeros}
 use Rattle.files_model.proofs.Batches.{length-spliced}
 use Rattle.files_model.proofs.Clips.{length-clipped}

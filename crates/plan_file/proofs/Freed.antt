@@ -1,14 +1,13 @@
--- What is free once a batch is put.
+-- What is free once a plan is put that changes one file alone.
 use Rattle.std.proofs.Common.{◌≡◌, ◌≢◌, ℕ, ◌+◌, ◌≤◌, Bool, true, false, cond, ◌&&◌, ◌==◌, not, List, length, refl, sym, ap, subst, ◌∙◌, arith, ⊎_elim, leb, Some, None, is_some}
 use Rattle.std.proofs.lemmas.Bool.{cases_eq, le-leb}
 use Rattle.std.specs.FinMap.{get}
 use Rattle.v7_layout.specs.Numbers.{field}
 use Rattle.files_model.specs.declared.attributes.FileId.{FileId}
-use Rattle.files_model.specs.declared.call.WriteItem.{WriteItem}
-use Rattle.files_model.specs.Batch.{calls_of, node_after}
 use Rattle.files_model.specs.Files.{Node, Files, live}
 use Rattle.files_model.specs.Step.{with_node}
-use Rattle.files_model.proofs.Batches.{after_batch, live-node}
+use Rattle.files_model.specs.Torn.{Asked, after_calls}
+use Rattle.files_model.proofs.Batches.{live-node}
 use Rattle.files_model.proofs.Maps.{get-insert_same, get-insert_other}
 use Rattle.stable.specs.Puts.{put_all}
 use Rattle.stable.specs.Store.{Image}
@@ -21,10 +20,18 @@ use Rattle.v7_map.proofs.Puts.{put_all-below}
 use Rattle.v7_map.proofs.Standing.{node-is}
 use Rattle.v7_map.proofs.Walks.{and_both}
 use Rattle.v7_sets.specs.Sets.{IsFreeNumber, AreSetsOf}
-use Rattle.plan_file.specs.Free.{AreFree}
+use Rattle.plan_file.specs.Free.{AreFree, AreSpare}
 
 pub free-of : (image : Image) (blocks inodes : List Bool) → AreSetsOf image blocks inodes → AreFree (frame image) blocks
 free-of image blocks inodes are = record { free = are.free; each = are.all_free }
+
+-- the free blocks of an image are ones that a store of its size can have
+pub spare-of : (image : Image) (sectors : ℕ) (blocks inodes : List Bool) → IsStrong (frame image) → length image ≡ sectors → AreSetsOf image blocks inodes → AreSpare sectors blocks
+unfolding frame
+spare-of image sectors blocks inodes strong long are a h =
+    let free = are.free a h in
+    let low = free.low in let high = free.high in
+    let three = strong.weak.sizes.low in let within = strong.weak.sizes.within in let huge = strong.weak.sizes.not_huge in (omega arith, omega arith)
 
 -- an inode is used where there is a node
 used-node : (image : Image) → IsStrong (frame image) → (i : ℕ) → is_inode image i ≡ true → ((frame image).head i).is_used ≡ is_some (get (view image).nodes i)
@@ -35,8 +42,8 @@ used-node image strong i is = by_used (not ((inode_at image i).mode == 0)) ∙ s
     by_used true = refl
     by_used false = refl
 
-module _ (image : Image) (strong : IsStrong (frame image)) (file : FileId) (old : Node) (is : live (view image) file ≡ Some old) (ws : List WriteItem) (now : ℕ)
-    (puts : List (ℕ × List ℕ)) (plan : IsPlanOf image (calls_of file ws) now puts) where
+module _ (image : Image) (strong : IsStrong (frame image)) (file : FileId) (old : Node) (is : live (view image) file ≡ Some old) (calls : List Asked) (now : ℕ) (new : Node)
+    (changed : after_calls (view image) calls now ≡ with_node (view image) file.ino new) (puts : List (ℕ × List ℕ)) (plan : IsPlanOf image calls now puts) where
   abbrev next : Image
   next = put_all puts image
 
@@ -49,8 +56,8 @@ module _ (image : Image) (strong : IsStrong (frame image)) (file : FileId) (old 
   same_fsize : fsize_of next ≡ fsize_of image
   same_fsize = ap (λ b. field b 2 4) first
 
-  files_are : view next ≡ with_node (view image) file.ino (node_after (view image) file old ws now)
-  files_are = plan.after ∙ (after_batch (view image) file old ws now is).0
+  files_are : view next ≡ with_node (view image) file.ino new
+  files_are = plan.after ∙ changed
 
   same_generations : (view next).generations ≡ (view image).generations
   same_generations = ap (λ (f : Files). f.generations) files_are
@@ -58,10 +65,10 @@ module _ (image : Image) (strong : IsStrong (frame image)) (file : FileId) (old 
   same_node : (i : ℕ) → is_some (get (view next).nodes i) ≡ is_some (get (view image).nodes i)
   same_node i = ap (λ (f : Files). is_some (get f.nodes i)) files_are ∙ ⊎_elim
       (λ (e : i ≡ file.ino).
-      ap (λ q. is_some (get (with_node (view image) file.ino (node_after (view image) file old ws now)).nodes q)) e
-      ∙ ap is_some (get-insert_same (view image).nodes file.ino (node_after (view image) file old ws now))
+      ap (λ q. is_some (get (with_node (view image) file.ino new).nodes q)) e
+      ∙ ap is_some (get-insert_same (view image).nodes file.ino new)
       ∙ sym (ap (λ q. is_some (get (view image).nodes q)) e ∙ ap is_some (live-node (view image) file old is)))
-      (λ (ne : i ≢ file.ino). ap is_some (get-insert_other (view image).nodes file.ino (node_after (view image) file old ws now) i ne))
+      (λ (ne : i ≢ file.ino). ap is_some (get-insert_other (view image).nodes file.ino new i ne))
       (cases_eq i file.ino)
 
   same_used : (i : ℕ) → 3 ≤ i → i ≤ inodes_before (isize_of image) → ((frame next).head i).is_used ≡ ((frame image).head i).is_used

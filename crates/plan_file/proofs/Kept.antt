@@ -7,7 +7,6 @@ use Rattle.std.specs.List.{list_any, range_with_len, count_by}
 use Rattle.files_model.specs.declared.call.WriteItem.{WriteItem}
 use Rattle.files_model.specs.declared.reply.Reply.{Reply}
 use Rattle.files_model.specs.Among.{is_among}
-use Rattle.files_model.specs.Batch.{touches}
 use Rattle.files_model.specs.Files.{sectors_of}
 use Rattle.files_model.specs.Step.{touched, spliced, is_refused}
 use Rattle.v7_space.proofs.Counting.{one, count-cons}

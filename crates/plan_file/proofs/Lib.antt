@@ -21,3 +21,9 @@ pub mod Listed
 pub mod Reading
 pub mod Adding
 pub mod Covered
+pub mod Dropping
+pub mod Zeros
+pub mod Giving
+pub mod Storing
+pub mod Zeroed
+pub mod SetDone

@@ -1,11 +1,11 @@
 -- One sector more has its block.
 use Rattle.std.proofs.Common.{length-set, ◌≡◌, ◌≢◌, ℕ, zero, suc, ◌+◌, ◌-◌, ◌<◌, ◌≤◌, min, Bool, true, false, cond, List, [], ◌∷◌, length, get_or, set, refl, sym, ap, ◌∙◌, arith, ⊎_elim, get_or-set_same, get_or-set_other, ◌&&◌, ◌==◌, eq-eqb, subst, Some, None}
-use Rattle.std.proofs.lemmas.Bool.{cases_eq, cases_lt, cases_Bool, ne_eqb}
+use Rattle.std.proofs.lemmas.Bool.{cases_eq, cases_lt, cases_Bool}
 use Rattle.std.specs.List.{range_with_len, count_by}
-use Rattle.v7_space.proofs.Counting.{one, count-cons}
+use Rattle.files_model.specs.Batch.{one_if}
+use Rattle.v7_space.proofs.Counting.{one, count-cons, count_parts}
 use Rattle.plan_file.specs.Draft.{holds}
-use Rattle.v7_sets.specs.Sets.{AreSpare}
-use Rattle.plan_file.specs.Free.{count_from}
+use Rattle.plan_file.specs.Free.{count_from, AreSpare}
 use Rattle.index_sets.specs.Free.{is_free, IsLowestFrom}
 use Rattle.plan_file.specs.Places.{AreWithin}
 use Rattle.plan_file.specs.declared.places.Places.{Places}
@@ -140,30 +140,6 @@ module _ (set' : List Bool) (old : Places) (held : List Bool) (mapped : Bool) (n
     kept = λ a h k s. has_less left new.single a (λ e. s z m (sym e)) ∙ t.kept a h k;
   }
 
--- ---- where the new places are, whatever the image: what the blocks and the free ones keep, they keep
-
-module _ (P : ℕ → Type 0) (set' : List Bool) (old : Places) (held : List Bool) (mapped : Bool) (new : Places) (laid : AreLaidOut set' old held mapped new)
-    (spare : (a : ℕ) → is_free set' a ≡ true → P a) (bodies : (k : ℕ) → get_or old.body k 0 ≢ 0 → P (get_or old.body k 0)) (single : old.single ≢ 0 → P old.single) where
-  pub laid-body : (k : ℕ) → k < 138 → holds held k ≡ true → P (get_or new.body k 0)
-  laid-body k lt h = ⊎_elim
-      (λ (z : get_or old.body k 0 ≡ 0). spare (get_or new.body k 0) (laid.body.there k lt (new_of (holds held k) (get_or old.body k 0 == 0) h (eq-eqb (get_or old.body k 0) 0 z))))
-      (λ (nz : get_or old.body k 0 ≢ 0). subst P (sym (laid.body.old k (old_of (holds held k) (get_or old.body k 0 == 0) (ne_eqb (get_or old.body k 0) 0 nz)))) (bodies k nz))
-      (cases_eq (get_or old.body k 0) 0)
-    where
-      new_of : (s t : Bool) → s ≡ true → t ≡ true → (s && t) ≡ true
-      new_of true t e f = f
-      new_of false t e f = absurd (cc)
-
-      old_of : (s t : Bool) → t ≡ false → (s && t) ≡ false
-      old_of true t f = f
-      old_of false t f = refl
-
-  pub laid-single : mapped ≡ true → P new.single
-  laid-single m = ⊎_elim
-      (λ (z : old.single ≡ 0). spare new.single (laid.single_new z m).0)
-      (λ (nz : old.single ≢ 0). subst P (sym (laid.single_old nz)) (single nz))
-      (cases_eq old.single 0)
-
 -- a sector whose block is another than before is held
 pub changed-held : (set' : List Bool) (old : Places) (held : List Bool) (mapped : Bool) (new : Places) → AreLaidOut set' old held mapped new → (k : ℕ) → get_or new.body k 0 ≢ get_or old.body k 0 → holds held k ≡ true
 changed-held set' old held mapped new laid k differs = by_test (holds held k) (get_or old.body k 0 == 0) (λ e. differs (laid.body.old k e))
@@ -172,28 +148,73 @@ changed-held set' old held mapped new laid k differs = by_test (holds held k) (g
     by_test true t h = refl
     by_test false t h = absurd (h refl)
 
--- each new block is one of the old places or of the free ones
-pub laid-within : (sectors : ℕ) (blocks : List Bool) (old : Places) (held : List Bool) (mapped : Bool) (new : Places) → AreLaidOut blocks old held mapped new → AreSpare sectors blocks → AreWithin (min sectors 1048576) old
-    → AreWithin (min sectors 1048576) new
-laid-within sectors blocks old held mapped new laid spare within = record {
-  body = λ k nz. ⊎_elim
-      (λ (n : is_new old.body held k ≡ true). ⊎_elim
-      (λ (lt : k < 138). spare (get_or new.body k 0) (laid.body.there k lt n))
-      (λ (ge : 138 ≤ k). old_body k nz (laid.body.rest k ge))
-      (cases_lt k 138))
-      (λ (n : is_new old.body held k ≡ false). old_body k nz (laid.body.old k n))
-      (cases_Bool (is_new old.body held k));
-  single = λ nz. ⊎_elim
-      (λ (z : old.single ≡ 0). ⊎_elim
-      (λ (m : mapped ≡ true). spare new.single (laid.single_new z m).0)
-      (λ (m : mapped ≡ false). absurd (nz (laid.single_none m ∙ z)))
-      (cases_Bool mapped))
-      (λ (some : old.single ≢ 0). subst (λ a. (2 ≤ a) × (a < min sectors 1048576)) (sym (laid.single_old some)) (within.single some))
-      (cases_eq old.single 0);
-}
-  where
-    old_body : (k : ℕ) → get_or new.body k 0 ≢ 0 → get_or new.body k 0 ≡ get_or old.body k 0 → (2 ≤ get_or new.body k 0) × (get_or new.body k 0 < min sectors 1048576)
-    old_body k nz e = subst (λ a. (2 ≤ a) × (a < min sectors 1048576)) (sym e) (within.body k (λ z. nz (e ∙ z)))
+-- ---- where the new places are, whatever the image
+
+-- where a sector takes a block, there is one to take
+pub new_some : (body : List ℕ) (held : List Bool) (i : ℕ) → i < length held → is_new body held i ≡ true → 0 < new_from body held 0
+unfolding new_from one
+new_some body held i lt new =
+    let n : ℕ = length held in
+    let parts = count_parts (is_new body held) 0 i (n - i) n (omega arith) in
+    let rest = count_parts (is_new body held) (0 + i) 1 (n - i - 1) (n - i) (omega arith) in
+    let here = count-cons (is_new body held) (0 + i) [] in
+    let start : 0 + i ≡ i = omega arith in
+    let is : ◌≡◌ {A = ℕ} (cond (is_new body held (0 + i)) 1 0) 1 = ap (λ t. cond t 1 0) (ap (is_new body held) start ∙ new) in
+    let all : n - 0 ≡ n = omega arith in
+    let whole : count_by (is_new body held) (range_with_len 0 (n - 0)) ≡ count_by (is_new body held) (range_with_len 0 n) = ap (λ m. count_by (is_new body held) (range_with_len 0 m)) all in
+    omega arith
+
+-- the blocks that a layout takes
+abbrev pub taken_by : Places → List Bool → Bool → ℕ
+taken_by old held mapped = new_from old.body held 0 + one_if (mapped && (old.single == 0))
+
+module _ (sectors : ℕ) (blocks : List Bool) (old : Places) (held : List Bool) (mapped : Bool) (new : Places) (laid : AreLaidOut blocks old held mapped new) (long : length held ≡ 138)
+    (spare : 0 < taken_by old held mapped → AreSpare sectors blocks) where
+  body_spare : (k : ℕ) → k < 138 → is_new old.body held k ≡ true → (2 ≤ get_or new.body k 0) × (get_or new.body k 0 < min sectors 1048576)
+  body_spare k lt n = let some = new_some old.body held k (omega arith) n in spare (omega arith) (get_or new.body k 0) (laid.body.there k lt n)
+
+  single_spare : old.single ≡ 0 → mapped ≡ true → (2 ≤ new.single) × (new.single < min sectors 1048576)
+  single_spare z m = let some : one_if (mapped && (old.single == 0)) ≡ 1 = (λ q. one_if (m q && (eq-eqb old.single 0 z) q)) in spare (omega arith) new.single (laid.single_new z m).0
+
+  old_body : AreWithin (min sectors 1048576) old → (k : ℕ) → get_or new.body k 0 ≢ 0 → get_or new.body k 0 ≡ get_or old.body k 0 → (2 ≤ get_or new.body k 0) × (get_or new.body k 0 < min sectors 1048576)
+  old_body within k nz e = subst (λ a. (2 ≤ a) × (a < min sectors 1048576)) (sym e) (within.body k (λ z. nz (e ∙ z)))
+
+  -- each is one of the old places or of the free blocks
+  pub laid-within : AreWithin (min sectors 1048576) old → AreWithin (min sectors 1048576) new
+  laid-within within = record {
+    body = λ k nz. ⊎_elim
+        (λ (n : is_new old.body held k ≡ true). ⊎_elim
+        (λ (lt : k < 138). body_spare k lt n)
+        (λ (ge : 138 ≤ k). old_body within k nz (laid.body.rest k ge))
+        (cases_lt k 138))
+        (λ (n : is_new old.body held k ≡ false). old_body within k nz (laid.body.old k n))
+        (cases_Bool (is_new old.body held k));
+    single = λ nz. ⊎_elim
+        (λ (z : old.single ≡ 0). ⊎_elim
+        (λ (m : mapped ≡ true). single_spare z m)
+        (λ (m : mapped ≡ false). absurd (nz (laid.single_none m ∙ z)))
+        (cases_Bool mapped))
+        (λ (some : old.single ≢ 0). subst (λ a. (2 ≤ a) × (a < min sectors 1048576)) (sym (laid.single_old some)) (within.single some))
+        (cases_eq old.single 0);
+  }
+
+  -- what is to be held has a block, and so has the block of addresses
+  pub laid-held : (k : ℕ) → k < 138 → holds held k ≡ true → get_or new.body k 0 ≢ 0
+  laid-held k lt h = ⊎_elim
+      (λ (n : is_new old.body held k ≡ true) z. let low = (body_spare k lt n).0 in absurd (omega arith))
+      (λ (n : is_new old.body held k ≡ false) z. absurd (clash (holds held k) (get_or old.body k 0 == 0) h n (eq-eqb (get_or old.body k 0) 0 (sym (laid.body.old k n) ∙ z))))
+      (cases_Bool (is_new old.body held k))
+    where
+      clash : (s t : Bool) → s ≡ true → (s && t) ≡ false → t ≡ true → ⊥
+      clash true true a b c = cc
+      clash true false a b c = cc
+      clash false t a b c = cc
+
+  pub laid-mapped : mapped ≡ true → new.single ≢ 0
+  laid-mapped m = ⊎_elim
+      (λ (z : old.single ≡ 0) e. let low = (single_spare z m).0 in absurd (omega arith))
+      (λ (some : old.single ≢ 0) e. some (sym (laid.single_old some) ∙ e))
+      (cases_eq old.single 0)
 
 -- ---- the lowest free number from one on
 

@@ -369,7 +369,7 @@ batch-done image strong whole file found is places sectors s_is at blocks inodes
       plan = planned;
       answered = plan-answered image strong whole file found is places sectors s_is at blocks inodes are d first ws now rs rs_is;
       cheap = batch-cheap image strong whole file found is places sectors s_is at blocks inodes are d first ws now rs rs_is some target laid' puts plan3;
-      sets = sets-after image strong file (node_at image file.ino) (live_is image strong whole file found is) ws now puts planned blocks inodes left are
+      sets = sets-after image strong file (node_at image file.ino) (live_is image strong whole file found is) (calls_of file ws) now (node_after (view image) file (node_at image file.ino) ws now) (after_batch (view image) file (node_at image file.ino) ws now (live_is image strong whole file found is)).0 puts planned blocks inodes left are
           (batch-lost image strong whole file found is places sectors s_is at blocks inodes are d first ws now rs rs_is some target laid' puts plan3 left taken') taken'.long;
     }
 

@@ -9,3 +9,5 @@ pub mod Contents
 pub mod Grown
 pub mod Started
 pub mod Planned
+pub mod Shorter
+pub mod Set

@@ -1,28 +1,26 @@
 // The plan of a batch of writes to one file.
 
-ghost use Rattle.std.specs.Prelude.{◌≡◌, ◌<◌, ◌≤◌, ℕ, [], length, replicate, true, not, min, IfOk, OnOk, OnErr, IsErrOf};
+ghost use Rattle.std.specs.Prelude.{◌≡◌, ◌<◌, ◌≤◌, [], length, replicate, true, not, IfOk, OnOk, OnErr, IsErrOf};
 ghost use Rattle.std.specs.List.{list_any};
 ghost use Rattle.files_model.specs.Space.{size_limit};
 ghost use Rattle.files_model.specs.Step.{is_refused};
 ghost use Rattle.files_model.specs.declared.reply.Reply.TheVariants.{Refused};
 ghost use Rattle.files_model.specs.declared.reply.Stat.TheVariants.{Stale};
-ghost use Rattle.index_sets.specs.Free.{is_free};
 ghost use Rattle.stable.specs.Counts.{HasCause, Rose};
 ghost use Rattle.stable.specs.Looked.{Looked};
 ghost use Rattle.v7_map.specs.Found.{IsFile};
 ghost use Rattle.v7_map.specs.Frame.{frame};
 ghost use Rattle.v7_map.specs.Image.{inode_sector};
 ghost use Rattle.v7_map.specs.Weak.{IsStrong};
-ghost use Rattle.v7_sets.specs.Sets.{AreSetsOf, AreSpare};
+ghost use Rattle.v7_sets.specs.Sets.{AreSetsOf};
 ghost use Rattle.plan_file.specs.Accepted.{kept_of};
-ghost use Rattle.plan_file.specs.Contents.{Fits};
-ghost use Rattle.plan_file.specs.Free.{HasFewer};
+ghost use Rattle.plan_file.specs.Free.{TakesBlocks};
 ghost use Rattle.plan_file.specs.Planned.{AreBatchPuts, IsReady, IsPlanned, CanBePut, HasAnswers};
 
 use crate::decide::decide;
 use crate::filling::{add_contents, add_cut, add_map};
 use crate::inode::sector_of_inode;
-use crate::layout::{lay_out, take_new};
+use crate::layout::{lay_out, spare_blocks, take_new};
 use crate::places::{Places, file_places};
 use crate::started::first_draft;
 use arrayvec::ArrayVec;
@@ -114,16 +112,16 @@ fn plan_found<S: Stable>(
     requires few { length batch.now ≤ 16 }
     requires empty { plan ≡ [] }
     requires found { (found.now.inode.size ≤ size_limit) × (inode_sector file.ino < S.sector_count store.old) }
-    requires spare { AreSpare (S.sector_count store.old) sets.old.blocks }
     ensures planned { S.tells → IsStrong (frame (S.image store.old)) → AreSetsOf (S.image store.old) sets.old.blocks sets.old.inodes → IsFile (S.image store.old) file found.now → IfOk result (λ r. IsPlanned (S.image store.old) file batch.now now sets.new r.plan r.replies.items) }
     ensures fits { IfOk result (λ r. HasAnswers (S.sector_count store.old) (length batch.now) r.plan r.replies.items) }
-    ensures fewer { HasFewer sets.old sets.new }
+    ensures takes { TakesBlocks sets.old sets.new }
     ensures kept { OnErr result (sets.new ≡ sets.old) }
     ensures cause { HasCause (S.faults store.old) (S.faults store.new) result }
     ensures looked { Looked S.Stable store.old store.new }
 {
     let places = file_places(store, &found.inode)?;
-    let mut draft = first_draft(file.ino, &found.inode, &places, sets.blocks.count());
+    let free = spare_blocks(&sets.blocks, store.sectors());
+    let mut draft = first_draft(file.ino, &found.inode, &places, free);
     let replies = decide(found.read_only, &mut draft, batch, now);
     if !any_accepted(replies.as_slice()) {
         return Ok(Planned { plan, replies });
@@ -163,10 +161,9 @@ pub fn plan_writes<S: Stable>(
     now: u32,
 ) -> Result<Planned, PlanFault>
     requires few { length batch.now ≤ 16 }
-    requires spare { AreSpare (S.sector_count store.old) sets.old.blocks }
     ensures planned { S.tells → IsStrong (frame (S.image store.old)) → AreSetsOf (S.image store.old) sets.old.blocks sets.old.inodes → IfOk result (λ r. IsPlanned (S.image store.old) file batch.now now sets.new r.plan r.replies.items) }
     ensures fits { IfOk result (λ r. HasAnswers (S.sector_count store.old) (length batch.now) r.plan r.replies.items) }
-    ensures fewer { HasFewer sets.old sets.new }
+    ensures takes { TakesBlocks sets.old sets.new }
     ensures kept { OnErr result (sets.new ≡ sets.old) }
     ensures cause { IsErrOf result PlanFault.Failed → Rose (S.faults store.old) (S.faults store.new) }
     ensures looked { Looked S.Stable store.old store.new }

@@ -1,14 +1,40 @@
 // Where the blocks of a file are to stand after a batch.
 
-ghost use Rattle.std.specs.Prelude.{◌≡◌, ◌≤◌, ◌<◌, ◌+◌, true, ◌&&◌, ◌==◌, ℕ};
+ghost use Rattle.std.specs.Prelude.{◌≡◌, ◌≤◌, ◌<◌, ◌+◌, true, false, ◌&&◌, ◌==◌, ℕ};
 ghost use Rattle.files_model.specs.Batch.{one_if};
-ghost use Rattle.index_sets.specs.Free.{is_free};
-ghost use Rattle.plan_file.specs.Free.{count_from};
+ghost use Rattle.index_sets.specs.Free.{is_free, count_free};
+ghost use Rattle.plan_file.specs.Free.{count_from, AreSpare};
 ghost use Rattle.plan_file.specs.Layout.{is_new, new_from, ArePlaced, AreLaidOut};
 ghost use Rattle.plan_file.specs.Started.{AreTaken, AreAllTaken};
 
 use crate::places::Places;
 use index_sets::FreeSet;
+
+// Whether a store of so many sectors, and an inode of three bytes an address, can have the blocks of a set, all past the super-block.
+fn is_spare(blocks: &FreeSet, sectors: u32) -> bool
+    ensures yes { result ≡ true → AreSpare sectors blocks.now }
+    ensures no { result ≡ false → AreSpare sectors blocks.now → ⊥ }
+{
+    if blocks.lowest_from(sectors.min(1_048_576)).is_some() {
+        return false;
+    }
+    match blocks.lowest_from(0) {
+        Some(lowest) => lowest >= 2,
+        None => true,
+    }
+}
+
+/// How many blocks of a set a plan may take on a store of so many sectors: all of them, or none where it has one that no volume can have free.
+pub fn spare_blocks(blocks: &FreeSet, sectors: u32) -> u32
+    ensures all { AreSpare sectors blocks.now → result ≡ count_free blocks.now }
+    ensures some { 0 < result → AreSpare sectors blocks.now }
+    ensures few { result ≤ count_free blocks.now }
+{
+    if !is_spare(blocks, sectors) {
+        return 0;
+    }
+    blocks.count()
+}
 
 // The next free block from a number on.
 fn next_block(blocks: &FreeSet, from: u32) -> u32
@@ -41,7 +67,7 @@ fn takes_block(body: &[u32; 138], held: &[bool; 138], index: usize) -> bool
 // Gives the sectors that are held and have no block the lowest free ones, in rising order.
 fn place_body(blocks: &FreeSet, body: &[u32; 138], held: &[bool; 138]) -> PlacedBody
     requires room { new_from body.now held.now 0 ≤ count_from blocks.now 0 }
-    requires small { (a : ℕ) → is_free blocks.now a ≡ true → a < 1048576 }
+    requires small { 0 < new_from body.now held.now 0 → (a : ℕ) → is_free blocks.now a ≡ true → a < 1048576 }
     ensures { ArePlaced blocks.now body.now held.now result.body 138 result.from }
 {
     let mut placed = *body;
@@ -61,7 +87,7 @@ fn place_body(blocks: &FreeSet, body: &[u32; 138], held: &[bool; 138]) -> Placed
 /// free ones.
 pub fn lay_out(blocks: &FreeSet, places: &Places, held: &[bool; 138], mapped: bool) -> Places
     requires room { new_from places.now.body held.now 0 + one_if (mapped && (places.now.single == 0)) ≤ count_from blocks.now 0 }
-    requires small { (a : ℕ) → is_free blocks.now a ≡ true → a < 1048576 }
+    requires small { 0 < new_from places.now.body held.now 0 + one_if (mapped && (places.now.single == 0)) → (a : ℕ) → is_free blocks.now a ≡ true → a < 1048576 }
     ensures { AreLaidOut blocks.now places.now held.now mapped result }
 {
     let placed = place_body(blocks, &places.body, held);

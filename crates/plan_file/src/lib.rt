@@ -2,6 +2,7 @@
 #![tactic(auto)]
 
 mod accepted;
+mod attributes;
 mod batch_plan;
 mod decide;
 mod draft;
@@ -10,10 +11,14 @@ mod inode;
 mod laws;
 mod layout;
 mod places;
+mod set_plan;
+mod shorter;
 mod started;
 
 pub use batch_plan::{PlanFault, Planned, plan_writes};
 pub use laws::batch_is_planned;
+pub use places::{Places, file_places};
+pub use set_plan::{PlannedSet, plan_setattr};
 
 #[cfg(test)]
 mod tests;

@@ -1,12 +1,9 @@
 //! Batches on a small volume over a store in memory.
 
-ghost use Rattle.std.specs.Prelude.{◌≡◌, ◌≤◌, true, length};
-ghost use Rattle.v7_sets.specs.Sets.{AreSpare};
-
 use crate::batch_plan::{Planned, plan_writes};
-use files_model::{Cred, Data, FileId, Gids, Reply, Stat, WriteItem};
-use index_sets::FreeSet;
-use stable::Stable;
+use crate::set_plan::plan_setattr;
+use files_model::{Cred, Data, FileId, Gids, Reply, Sattr, Stat, WriteItem};
+use stable::{Plan, Stable};
 use std::alloc::Global;
 use std::test::Fail;
 use store_mem::Memory;
@@ -17,19 +14,6 @@ const FILE: FileId = FileId {
     ino: 3,
     generation: 1,
 };
-
-// Whether blocks are past the super-block and within a store.
-fn is_spare(blocks: &FreeSet, sectors: u32) -> bool
-    ensures { result ≡ true → AreSpare sectors blocks.now }
-{
-    if blocks.lowest_from(sectors.min(1_048_576)).is_some() {
-        return false;
-    }
-    match blocks.lowest_from(0) {
-        Some(lowest) => lowest >= 2,
-        None => true,
-    }
-}
 
 // A volume of 64 sectors, whose data blocks begin at 4, and whose file 3 is empty.
 fn volume(alloc: Global) -> Result<Memory, Fail> {
@@ -62,14 +46,19 @@ fn free(alloc: Global, blocks: &[u32]) -> Result<Sets, Fail> {
     Ok(sets)
 }
 
+// The owner of the file.
+fn owner() -> Cred {
+    Cred {
+        uid: 100,
+        gid: 100,
+        gids: Gids::copy(&[]),
+    }
+}
+
 // A write of one byte by the owner.
 fn one_byte(alloc: Global, offset: u32) -> Result<WriteItem, Fail> {
     Ok(WriteItem {
-        cred: Cred {
-            uid: 100,
-            gid: 100,
-            gids: Gids::copy(&[]),
-        },
+        cred: owner(),
         offset,
         bytes: Data::copy(alloc, b"X").map_err(|_| "memory")?,
     })
@@ -82,10 +71,41 @@ fn plan(
     sets: &mut Sets,
     batch: &[WriteItem],
 ) -> Result<Planned, Fail> {
-    if batch.len() > 16 || !is_spare(&sets.blocks, store.sectors()) {
+    if batch.len() > 16 {
         return Err("no batch".into());
     }
     Ok(plan_writes(alloc, store, sets, FILE, batch, 2000).map_err(|_| "not planned")?)
+}
+
+// Puts a plan on a store.
+fn run(store: &mut Memory, plan: &Plan) -> Result<(), Fail> {
+    for put in plan.puts() {
+        if put.0 >= store.sectors() {
+            return Err("past the store".into());
+        }
+        store.put(put.0, &put.1).map_err(|_| "store")?;
+    }
+    Ok(())
+}
+
+// A SETATTR of a size by the owner, put at second 3000. It gives how many puts it took, and how many blocks it freed.
+fn resize(alloc: Global, store: &mut Memory, size: u32) -> Result<(usize, usize), Fail> {
+    let wanted = Sattr {
+        mode: None,
+        uid: None,
+        gid: None,
+        size: Some(size),
+        atime: None,
+        mtime: None,
+    };
+    let planned = plan_setattr(alloc, store, FILE, &wanted, &owner(), 3000).map_err(
+        |_| "not planned",
+    )?;
+    if !matches!(&planned.reply, Reply::Attr(attr) if attr.size == size && attr.ctime == 3000) {
+        return Err("another reply".into());
+    }
+    run(store, &planned.plan)?;
+    Ok((planned.plan.puts().len(), planned.freed.len()))
 }
 
 #[test]
@@ -163,5 +183,34 @@ fn three_writes_are_one_plan_and_the_last_one_wins(rt: HostRuntime) -> Result<()
     let first = puts[0].1;
     assert!(rt; first[0] == b'X' && first[1] == b'Y');
     assert!(rt; sets.blocks.count() == 1 && sets.blocks.has(35));
+    Ok(())
+}
+
+#[test]
+fn what_a_shorter_file_drops_reads_as_zeros_when_it_grows(rt: HostRuntime) -> Result<(), Fail> {
+    let alloc = rt.alloc();
+    let mut store = volume(alloc)?;
+    let mut sets = Sets::new(alloc, 64, 17).map_err(|_| "memory")?;
+    for block in 10..36 {
+        sets.blocks.give(block);
+    }
+    let batch = [most_bytes(alloc, 0)?];
+    let planned = plan(alloc, &mut store, &mut sets, &batch)?;
+    run(&mut store, &planned.plan)?;
+    // 16 sectors in blocks 10 to 25, and block 26 with the addresses of the last six
+    assert!(rt; resize(alloc, &mut store, 5633)? == (2, 4));
+    let addresses = store.sector(26);
+    assert!(rt;
+        addresses[0] == 20 && addresses[4] == 21 && addresses[8] == 0 && addresses[20] == 0
+    );
+    assert!(rt; store.sector(21) == [b'Y'; 512]);
+    assert!(rt; resize(alloc, &mut store, 8192)? == (2, 0));
+    let last = store.sector(21);
+    assert!(rt; last[0] == b'Y' && last[1] == 0 && last[511] == 0);
+    assert!(rt; resize(alloc, &mut store, 100)? == (1, 12));
+    let inode = Inode::read(&store.sector(2)[128..192]);
+    assert!(rt;
+        inode.size == 100 && inode.single == 0 && inode.direct[0] == 10 && inode.direct[1] == 0
+    );
     Ok(())
 }

@@ -34,8 +34,10 @@ pub struct Presto<R: Rig + Drop> {
 }
 
 impl<R: Rig + Drop> Stable for Presto<R> {
+    ghost use Rattle.std.specs.Prelude.{[], get_or, OnOk};
     ghost use Rattle.nvram_map.specs.Overlay.{overlay};
-    ghost use Rattle.stable.specs.Looked.{IsPut};
+    ghost use Rattle.stable.specs.Counts.{HasCause};
+    ghost use Rattle.stable.specs.Looked.{IsPut, Looked};
     ghost use Rattle.rig.specs.Looked.{Stays};
     ghost use Rattle.presto_states.specs.Track.{IsNoted};
     ghost use Rattle.presto_unit.specs.Images.{overlays_since};
@@ -80,7 +82,14 @@ impl<R: Rig + Drop> Stable for Presto<R> {
         self.rig.sectors()
     }
 
-    fn get(&mut self, sector: u32, into: &mut [u8; 512]) -> Result<(), Failed> {
+    /// Reads a sector, of the board or the disk. Nothing of the rig changes.
+    fn get(&mut self, sector: u32, into: &mut [u8; 512]) -> Result<(), Failed>
+        requires { sector < (R.sizes self.old.rig).sectors }
+        ensures done { R.tells → OnOk result (into.new ≡ get_or (overlay (R.contents self.old.rig)) sector []) }
+        ensures cause { HasCause (R.faults self.old.rig) (R.faults self.new.rig) result }
+        ensures looked { Looked ⟦<Presto<R> as Stable>⟧ self.old self.new }
+        ensures stays { Stays R.Rig (rig_of self.old) (rig_of self.new) }
+    {
         read_through(&self.cache, &mut self.rig, sector, into)
     }
 

@@ -1,5 +1,5 @@
 -- Puts of whole sectors, one after the other.
-use Rattle.std.specs.Prelude.{◌≡◌, ℕ, ◌≤◌, ◌<◌, List, [], ◌∷◌, length, set, take}
+use Rattle.std.specs.Prelude.{◌≡◌, ℕ, ◌-◌, ◌≤◌, ◌<◌, Bool, not, ◌&&◌, ◌==◌, if◌then◌else◌, List, [], ◌∷◌, ◌++◌, length, get_or, set, take}
 use Rattle.std.specs.List.{AllByRecursion}
 use Rattle.stable.specs.Store.{Image}
 
@@ -24,3 +24,11 @@ AllStand sectors puts = AllByRecursion (λ (put : ℕ × List ℕ). put.0 < sect
 -- no put is of a sector before the third, so none is of the super-block
 abbrev pub AllPastSuperBlock : List (ℕ × List ℕ) → Type 0
 AllPastSuperBlock puts = AllByRecursion (λ (put : ℕ × List ℕ). 2 ≤ put.0) puts
+
+-- the last of these puts is of this sector
+abbrev pub ends_with : List (ℕ × List ℕ) → ℕ → Bool
+ends_with puts sector = not (length puts == 0) && ((get_or puts (length puts - 1) (0, [])).0 == sector)
+
+-- the puts with one more, which takes the place of the last one where that is of the same sector
+abbrev pub with_put : List (ℕ × List ℕ) → ℕ × List ℕ → List (ℕ × List ℕ)
+with_put puts put = if ends_with puts put.0 then set puts (length puts - 1) put else puts ++ put ∷ []

@@ -1,5 +1,6 @@
 //! A plan: sectors with their new content, to be put one after the other.
 ghost use Rattle.std.specs.Prelude.{◌≡◌, ◌<◌, ◌≤◌, [], ◌∷◌, ◌++◌, length, IfOk};
+ghost use Rattle.stable.specs.Puts.{with_put};
 
 use crate::NoMemory;
 use std::alloc::Global;
@@ -42,6 +43,19 @@ impl Plan {
             Ok(()) => {}
             Err(_) => unreachable!(),
         }
+    }
+
+    /// Puts one sector more; where the last one is the same sector, it takes that one's place, so that both are one put.
+    pub fn add_or_replace(&mut self, sector: u32, bytes: &[u8; 512])
+        requires { length self.old < 420 }
+        ensures { self.new ≡ with_put self.old (sector, bytes.now) }
+    {
+        let count = self.puts.len();
+        if count > 0 && self.puts[count - 1].0 == sector {
+            self.puts[count - 1] = (sector, *bytes);
+            return;
+        }
+        self.add(sector, bytes);
     }
 
     /// Forgets all of it.

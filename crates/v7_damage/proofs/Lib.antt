@@ -16,3 +16,5 @@ pub mod Passed
 pub mod Noting
 pub mod Deciding
 pub mod Knowing
+mod Modes
+mod FreeInodes

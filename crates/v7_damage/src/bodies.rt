@@ -82,6 +82,18 @@ pub(crate) fn keep_body(
     Ok(())
 }
 
+/// Puts a free inode at the end of the tables.
+pub(crate) fn keep_none(bodies: &mut Bodies) -> Result<(), NoMemory>
+    requires { length bodies.old.blocks.items < 2 ^ 32 }
+    ensures slots { OnOk result (bodies.new.slots.items ≡ bodies.old.slots.items ++ 0 ∷ []) }
+    ensures starts { OnOk result (bodies.new.starts.items ≡ bodies.old.starts.items ++ length bodies.old.blocks.items ∷ []) }
+    ensures blocks { bodies.new.blocks.items ≡ bodies.old.blocks.items }
+{
+    bodies.starts.push(bodies.blocks.len() as u32)?;
+    bodies.slots.push(0)?;
+    Ok(())
+}
+
 /// The block of sector `index` of a directory, 0 where it has none.
 pub(crate) fn block_of(bodies: &Bodies, ino: usize, index: usize) -> u32
     requires number { ino < length bodies.now.starts.items }

@@ -1,6 +1,6 @@
 // The tests of the inodes.
 
-ghost use Rattle.std.specs.Prelude.{◌≡◌, ◌<◌, ◌≤◌, ℕ, ◌+◌, length, [], ◌∷◌, get_or, None, OnOk, IsErrOf};
+ghost use Rattle.std.specs.Prelude.{◌≡◌, ◌<◌, ◌≤◌, ℕ, ◌+◌, ◌++◌, true, length, [], ◌∷◌, get_or, None, OnOk, IsErrOf};
 ghost use Rattle.std.specs.Option.{option_map};
 ghost use Rattle.stable.specs.Counts.{Rose};
 ghost use Rattle.stable.specs.Looked.{Looked};
@@ -8,11 +8,11 @@ ghost use Rattle.v7_map.specs.Image.{inode_sector};
 ghost use Rattle.v7_map.specs.Frame.{Frame, frame, head_of};
 ghost use Rattle.v7_map.specs.Damage.{has_kind, has_length};
 ghost use Rattle.v7_damage.specs.Marks.{AreSeen};
-ghost use Rattle.v7_damage.specs.Stored.{AreBodies, HasTables, IsFirst};
+ghost use Rattle.v7_damage.specs.Stored.{AreBodies, HasTables, IsFirst, Keeps};
 ghost use Rattle.v7_damage.specs.Tests.{HasInode, HasNumbers, IsTold, first_failing, kind_of_test, tests_of, tests_of_inodes, earlier_blocks};
 ghost use Rattle.v7_damage.specs.declared.damage.RepairFault.TheVariants as fault;
 
-use crate::bodies::{Bodies, keep_body};
+use crate::bodies::{Bodies, keep_body, keep_none};
 use crate::damage::{Damage, RepairFault};
 use crate::marks::Marks;
 use crate::places::test_places;
@@ -64,7 +64,7 @@ fn has_length(inode: &Inode) -> bool
     true
 }
 
-// The first test that fails of those of an inode. Its blocks are seen from then on.
+// The first test that fails of those of a used inode. Its blocks are seen from then on.
 fn test_inode(
     ino: u32,
     inode: &Inode,
@@ -75,19 +75,12 @@ fn test_inode(
 ) -> Option<Damage>
     requires fits { fsize ≤ length seen.old }
     requires number { 1 ≤ ino }
-    ensures tested { (f : Frame) → HasInode f ino isize fsize inode.now places.now
+    ensures tested { (f : Frame) → HasInode f ino isize fsize inode.now places.now → (f.head ino).is_used ≡ true
         → AreSeen seen.old (earlier_blocks f ino 0) → result ≡ option_map kind_of_test (first_failing f (tests_of f ino)) }
     ensures seen { (f : Frame) → HasInode f ino isize fsize inode.now places.now
         → AreSeen seen.old (earlier_blocks f ino 0) → result ≡ None → AreSeen seen.new (earlier_blocks f (ino + 1) 0) }
     ensures length { length seen.new ≡ length seen.old }
 {
-    if inode.mode == 0 {
-        return if ino == ROOT {
-            Some(Damage::Kind)
-        } else {
-            None
-        };
-    }
     if !has_kind(ino, inode) {
         return Some(Damage::Kind);
     }
@@ -95,6 +88,62 @@ fn test_inode(
         return Some(Damage::Length);
     }
     test_places(inode, places, isize, fsize, seen)
+}
+
+// Tests one inode, and puts its type, and where its slots stand, at the end of the tables. Of a free one the mode alone is read.
+// Nothing is changed.
+fn test_next<S: Stable>(
+    store: &mut S,
+    reader: &mut InodeReader,
+    ino: u32,
+    isize: u32,
+    fsize: u32,
+    seen: &mut Marks,
+    types: &mut Vec<u8>,
+    bodies: &mut Bodies,
+) -> Result<(), RepairFault>
+    requires stands { inode_sector ino < S.sector_count store.old }
+    requires number { 1 ≤ ino }
+    requires few { ino ≤ 65535 }
+    requires fits { fsize ≤ length seen.old }
+    requires tables { HasTables ino types.old.items bodies.old }
+    ensures told { S.tells → (n : ℕ) → HasNumbers (S.image store.old) isize fsize n → ino ≤ n → Keeps (S.image store.old) reader.old → AreSeen seen.old (earlier_blocks (frame (S.image store.old)) ino 0)
+        → IsTold (frame (S.image store.old)) (tests_of (frame (S.image store.old)) ino) result }
+    ensures seen { S.tells → (n : ℕ) → HasNumbers (S.image store.old) isize fsize n → ino ≤ n → Keeps (S.image store.old) reader.old → AreSeen seen.old (earlier_blocks (frame (S.image store.old)) ino 0)
+        → OnOk result (AreSeen seen.new (earlier_blocks (frame (S.image store.old)) (ino + 1) 0)) }
+    ensures types { S.tells → (n : ℕ) → HasNumbers (S.image store.old) isize fsize n → ino ≤ n → Keeps (S.image store.old) reader.old
+        → OnOk result (types.new.items ≡ types.old.items ++ ((frame (S.image store.old)).head ino).type ∷ []) }
+    ensures bodies { S.tells → (n : ℕ) → HasNumbers (S.image store.old) isize fsize n → ino ≤ n → Keeps (S.image store.old) reader.old
+        → AreBodies (S.image store.old) bodies.old ino → OnOk result (AreBodies (S.image store.old) bodies.new (ino + 1)) }
+    ensures tables { OnOk result (HasTables (ino + 1) types.new.items bodies.new) }
+    ensures length { length seen.new ≡ length seen.old }
+    ensures keeps { S.tells → Keeps (S.image store.old) reader.old → Keeps (S.image store.old) reader.new }
+    ensures cause { IsErrOf result fault.Failed → Rose (S.faults store.old) (S.faults store.new) }
+    ensures looked { Looked S.Stable store.old store.new }
+{
+    let mode = reader.mode(store, ino)?;
+    if mode == 0 {
+        if ino == ROOT {
+            let sector = inode_sector_of(ino);
+            let kind = Damage::Kind;
+            return Err(RepairFault::Damaged { sector, kind });
+        }
+        types.push(0)?;
+        keep_none(bodies)?;
+        return Ok(());
+    }
+    let inode = reader.read(store, ino)?;
+    let places = read_places(store, &inode)?;
+    match test_inode(ino, &inode, &places, isize, fsize, seen) {
+        None => {}
+        Some(kind) => {
+            let sector = inode_sector_of(ino);
+            return Err(RepairFault::Damaged { sector, kind });
+        }
+    }
+    types.push((inode.mode / 4096) as u8)?;
+    keep_body(bodies, &inode, &places)?;
+    Ok(())
 }
 
 /// Tests the inodes in rising number, and puts the type of each, and where the slots of directories stand, at the end of tables that have an
@@ -122,17 +171,10 @@ pub(crate) fn test_inodes<S: Stable>(
 {
     let mut reader = InodeReader::new();
     for ino in 1..inodes + 1 {
-        let inode = reader.read(store, ino)?;
-        let places = read_places(store, &inode)?;
-        match test_inode(ino, &inode, &places, isize, fsize, seen) {
-            None => {}
-            Some(kind) => {
-                let sector = inode_sector_of(ino);
-                return Err(RepairFault::Damaged { sector, kind });
-            }
+        match test_next(store, &mut reader, ino, isize, fsize, seen, types, bodies) {
+            Ok(()) => {}
+            Err(fault) => return Err(fault),
         }
-        types.push((inode.mode / 4096) as u8)?;
-        keep_body(bodies, &inode, &places)?;
     }
     Ok(())
 }

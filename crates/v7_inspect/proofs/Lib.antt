@@ -2,3 +2,4 @@ pub mod Tallies
 pub mod Usages
 pub mod ViewUsage
 pub mod Mending
+mod Unnamed

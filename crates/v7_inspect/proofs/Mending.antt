@@ -80,10 +80,6 @@ tidy_same at other single alike size same one =
     λ z. past z && ((one z == 0) || some z)
 
 module _ (image : Image) (i : ℕ) (n : Inode) (is : n ≡ inode_at image i) where
-  pub strong_free : n.mode ≡ 0 → true ≡ is_strong_at (frame image) i
-  unfolding is_strong_at frame
-  strong_free free = sym (or_left _ _ (ap not (ap (λ (m : Inode). not (m.mode == 0)) (sym is) ∙ ap not (eq-eqb n.mode 0 free))))
-
   pub strong_used : (places : List ℕ) (named : Bool) (count : ℕ) → n.mode ≢ 0 → ((k : ℕ) → k < 140 → get_or places k 0 ≡ address_of image (head_of n) (place_at k)) → named ≡ is_named (tree (frame image)) i → count ≡ links (tree (frame image)) i
       → ((n.nlink == count) && (named && is_tidy (λ k. get_or places (place_of_body k) 0) (get_or places 10 0) n.size)) ≡ is_strong_at (frame image) i
   unfolding is_strong_at frame

@@ -1,18 +1,18 @@
 // The pass over the inodes of a volume without damage.
 
-ghost use Rattle.std.specs.Prelude.{◌≡◌, ◌≢◌, ◌<◌, ◌≤◌, ◌-◌, ◌||◌, ◌&&◌, ℕ, length, get_or, nat_lt, IfOk, OnOk, IsErrOf, if◌then◌else◌};
+ghost use Rattle.std.specs.Prelude.{◌≡◌, ◌≢◌, ◌<◌, ◌≤◌, ◌-◌, ◌||◌, ℕ, length, get_or, nat_lt, IfOk, OnOk, IsErrOf};
 ghost use Rattle.std.specs.List.{range_with_len, sum_by, list_all};
 ghost use Rattle.stable.specs.Counts.{HasCause, Rose};
 ghost use Rattle.stable.specs.Looked.{Looked};
 ghost use Rattle.v7_map.specs.Frame.{frame};
 ghost use Rattle.v7_damage.specs.Marks.{mark_at};
-ghost use Rattle.v7_damage.specs.Stored.{Keeps, body_at};
+ghost use Rattle.v7_damage.specs.Stored.{Keeps};
 ghost use Rattle.v7_damage.specs.Tests.{NotDamaged};
 ghost use Rattle.v7_damage.specs.Undamaged.{HasEntries, IsUndamaged};
 ghost use Rattle.v7_damage.specs.declared.damage.RepairFault.TheVariants as fault;
 ghost use Rattle.v7_inspect.specs.Judged.{IsJudged};
 ghost use Rattle.v7_inspect.specs.Tidy.{is_strong_at};
-ghost use Rattle.v7_inspect.specs.Usage.{AreNeeded, is_at, is_needed_by, named_needs, needed_by, needs_block, sectors_in_size};
+ghost use Rattle.v7_inspect.specs.Usage.{AreNeeded, is_needed_by, named_needs};
 
 use crate::needs::needs_of;
 use crate::tidy::{both, is_strong};
@@ -36,20 +36,7 @@ pub fn is_named(known: &Undamaged, ino: u32) -> bool
     known.walked.has(ino) || known.counts[ino as usize] > 0
 }
 
-// How many blocks an inode needs, none where no slot names it. They are marked.
-fn needs_if(named: bool, size: u32, places: &[u32; 140], needed: &mut Marks) -> u32
-    ensures needs { result ≡ (if named then needed_by (is_at places.now) (sectors_in_size size) else 0) }
-    ensures few { result ≤ 139 }
-    ensures marks { (b : ℕ) → b ≢ 0 → b < length needed.old → mark_at needed.new b ≡ (mark_at needed.old b || (named && needs_block (body_at places.now) (get_or places.now 10 0) (sectors_in_size size) b)) }
-    ensures length { length needed.new ≡ length needed.old }
-{
-    if !named {
-        return 0;
-    }
-    needs_of(size, places, needed)
-}
-
-// Reads one inode and its indirect block, and judges it. Nothing is changed.
+// Judges one inode, which is read with its indirect block only where it is named. Nothing is changed.
 fn judge_inode<S: Stable>(
     store: &mut S,
     reader: &mut InodeReader,
@@ -70,17 +57,23 @@ fn judge_inode<S: Stable>(
     ensures cause { HasCause (S.faults store.old) (S.faults store.new) result }
     ensures looked { Looked S.Stable store.old store.new }
 {
+    if !is_named(known, ino) {
+        let kind = known.types[ino as usize];
+        return Ok(Sum {
+            needs: 0,
+            strong: kind == 0,
+        });
+    }
     let inode = reader.read(store, ino)?;
     let places = read_places(store, &inode)?;
-    let named = is_named(known, ino);
     let count = known.counts[ino as usize];
     Ok(Sum {
-        needs: needs_if(named, inode.size, &places, needed),
-        strong: is_strong(&inode, &places, named, count),
+        needs: needs_of(inode.size, &places, needed),
+        strong: is_strong(&inode, &places, count),
     })
 }
 
-// Judges all inodes, in one pass over the i-list. Nothing is changed.
+// Judges all inodes, in rising number. Nothing is changed.
 fn sum_inodes<S: Stable>(
     store: &mut S,
     known: &Undamaged,
@@ -116,8 +109,8 @@ pub struct Judged {
     pub needed: Marks,
 }
 
-/// Judges the inodes of a volume of which all this is known, in one pass over the i-list that reads each indirect block once. `Damaged` doesn't
-/// come. Nothing is changed.
+/// Judges the inodes of a volume of which all this is known, in one pass that reads those that a slot names, each with its indirect block once.
+/// `Damaged` doesn't come. Nothing is changed.
 pub fn judge_inodes<S: Stable>(
     alloc: Global,
     store: &mut S,

@@ -1,6 +1,6 @@
 // Whether there is nothing to mend in an inode.
 
-ghost use Rattle.std.specs.Prelude.{◌≡◌, ◌≢◌, true, get_or, ◌||◌, ◌&&◌, ◌==◌};
+ghost use Rattle.std.specs.Prelude.{◌≡◌, get_or, ◌||◌, ◌&&◌, ◌==◌};
 ghost use Rattle.v7_damage.specs.Stored.{body_at};
 ghost use Rattle.v7_inspect.specs.Tidy.{none_past, some_listed, is_tidy};
 
@@ -22,14 +22,28 @@ fn either(first: bool, second: bool) -> bool
     first || second
 }
 
-// Whether no sector of a body of this size stands past it.
+// Whether none of the first ten sectors of a body of this size stands past it.
+fn none_past_first(size: u32, places: &[u32; 140]) -> bool
+    ensures { result ≡ none_past (body_at places.now) size 10 }
+{
+    let sectors = sectors_of(size) as usize;
+    let mut none = true;
+    for index in 0..10 {
+        let fits = either(index < sectors, body_block(places, index) == 0);
+        none = both(none, fits);
+    }
+    none
+}
+
+// Whether no sector of a body of this size stands past it. The sectors whose addresses stand in a block have a loop of their own, which is run
+// several at a time.
 fn none_past(size: u32, places: &[u32; 140]) -> bool
     ensures { result ≡ none_past (body_at places.now) size 138 }
 {
     let sectors = sectors_of(size) as usize;
-    let mut none = true;
-    for index in 0..138 {
-        let fits = either(index < sectors, body_block(places, index) == 0);
+    let mut none = none_past_first(size, places);
+    for index in 0..128 {
+        let fits = either(index + 10 < sectors, body_block(places, index + 10) == 0);
         none = both(none, fits);
     }
     none
@@ -56,14 +70,9 @@ fn is_tidy(size: u32, places: &[u32; 140]) -> bool
     )
 }
 
-/// Whether there is nothing to mend in an inode whose blocks stand at these places, that so many slots name.
-pub(crate) fn is_strong(inode: &Inode, places: &[u32; 140], named: bool, count: u16) -> bool
-    ensures free { inode.now.mode ≡ 0 → result ≡ true }
-    ensures used { inode.now.mode ≢ 0 → result ≡ ((inode.now.nlink == count) && (named && is_tidy (body_at places.now) (get_or places.now 10 0) inode.now.size)) }
+/// Whether there is nothing to mend in a named inode whose blocks stand at these places, that so many slots name.
+pub(crate) fn is_strong(inode: &Inode, places: &[u32; 140], count: u16) -> bool
+    ensures { result ≡ ((inode.now.nlink == count) && is_tidy (body_at places.now) (get_or places.now 10 0) inode.now.size) }
 {
-    if inode.mode == 0 {
-        return true;
-    }
-    let counted = inode.nlink == count;
-    both(counted, both(named, is_tidy(inode.size, places)))
+    both(inode.nlink == count, is_tidy(inode.size, places))
 }

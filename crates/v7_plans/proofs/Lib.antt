@@ -5,3 +5,7 @@ pub mod Muting
 pub mod CutQuiet
 pub mod SettingPlan
 pub mod ShrinkPlan
+pub mod Resized
+pub mod AddressPut
+pub mod Setattr
+pub mod SetPlans

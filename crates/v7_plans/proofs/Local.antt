@@ -1,10 +1,10 @@
 -- Weak and Strong, inode by inode: what has to be shown of a frame that is another one but for one inode, whatever becomes of the tree.
-use Rattle.std.proofs.Common.{◌≡◌, ◌≢◌, ◌⊎◌, ℕ, ◌+◌, ◌<◌, ◌≤◌, true, false, not, ◌==◌, ◌||◌, List, refl, sym, ap, subst, ◌∙◌, arith, ⊎_elim, Some, ltb}
+use Rattle.std.proofs.Common.{◌≡◌, ◌≢◌, ℕ, ◌<◌, ◌≤◌, true, false, not, ◌==◌, List, refl, sym, ap, subst, ◌∙◌, arith, ⊎_elim, Some}
 use Rattle.std.proofs.lemmas.Bool.{cases_eq}
 use Rattle.std.specs.List.{range_with_len, list_any}
-use Rattle.files_model.specs.Files.{sectors_of, Slot}
+use Rattle.files_model.specs.Files.{sectors_of}
 use Rattle.v7_map.specs.Frame.{Frame, Head, Place, Body, Single, Double, is_directory}
-use Rattle.v7_map.specs.Tree.{tree, is_walked, is_named, links, is_slot_of}
+use Rattle.v7_map.specs.Tree.{tree, is_walked, is_named, links}
 use Rattle.v7_map.specs.Weak.{IsWeak, IsStrong, IsGood, IsTree, slot_at}
 use Rattle.v7_plans.specs.Placed.{IsMine}
 

@@ -1,5 +1,5 @@
 -- Quiet puts before a plan, and in its midst.
-use Rattle.std.proofs.Common.{◌≡◌, ℕ, ◌-◌, ◌<◌, ◌≤◌, List, [], ◌∷◌, ◌++◌, length, set, refl, sym, ap, subst, ◌∙◌, length-set, inl, arith}
+use Rattle.std.proofs.Common.{◌≡◌, ℕ, ◌-◌, ◌<◌, ◌≤◌, List, [], ◌∷◌, ◌++◌, length, set, refl, sym, ap, subst, ◌∙◌, length-set, inl}
 use Rattle.std.specs.List.{AllByRecursion}
 use Rattle.files_model.specs.Files.{Files}
 use Rattle.files_model.specs.Torn.{Asked, Torn, after_calls}

@@ -17,7 +17,7 @@ use Rattle.v7_map.proofs.Data.{view_but_one}
 use Rattle.v7_map.proofs.Nodes.{StandsAs, view-node}
 use Rattle.v7_map.proofs.Ranges.{inode_sector-inside}
 use Rattle.v7_map.proofs.Used.{named_used}
-use Rattle.v7_plans.specs.Setting.{IsSetting, ShrinksInode}
+use Rattle.v7_plans.specs.Setting.{IsSetting, ShrinksTo, IsCutBy, put_inode}
 use Rattle.v7_plans.proofs.InodePut.{put-head, put-address, put-tree, put-elsewhere, put-weak, put-inode, put-inode_other, put-body, put-body_other, put-first}
 use Rattle.v7_plans.proofs.Local.{Elsewhere, IsStrongBut, held-mine, same-IsTree, each}
 use Rattle.std.proofs.Common.{◌<◌, length, false, ⊎_elim, length-set, List, set}
@@ -33,7 +33,7 @@ use Rattle.v7_plans.proofs.Muting.{muted-tree, muted-heads, muted-view, muted-st
 clash : {b : Bool} → b ≡ true → b ≡ false → ⊥
 clash {b = b} x y = cc
 
-module _ (image : Image) (asked : Asked) (now i : ℕ) (n m : Node) (v : Inode) (b : List ℕ) (strong : IsStrong (frame image)) (c : IsSetting (view image) asked now i n m) (inner : List (ℕ × List ℕ)) (x : ShrinksInode image i v m b inner) where
+module _ (image : Image) (asked : Asked) (now i : ℕ) (n m : Node) (v : Inode) (b : List ℕ) (strong : IsStrong (frame image)) (c : IsSetting (view image) asked now i n m) (x : ShrinksTo image i v m b) where
   s_i : StandsAs image i n
   s_i = view-node image i n c.at
 
@@ -59,31 +59,26 @@ module _ (image : Image) (asked : Asked) (now i : ℕ) (n m : Node) (v : Inode) 
   unfolding frame
   same_slots = no_slots image (head_of v) x.no_directory ∙ sym (no_slots image (head_of (inode_at image i)) x.was_none)
 
-  new : Image
+  abbrev new : Image
   new = set image (inode_sector i) b
 
-  but : Elsewhere i (frame image) (frame new)
-  unfolding new
-  but = put-elsewhere image i b v strong.weak x.puts mine needed
+  pub shrink-elsewhere : Elsewhere i (frame image) (frame (put_inode image i b))
+  shrink-elsewhere = put-elsewhere image i b v strong.weak x.puts mine needed
 
-  head_new : (frame new).head i ≡ head_of v
-  unfolding new
-  head_new = put-head image i b v strong.weak x.puts mine needed
+  pub shrink-head : (frame (put_inode image i b)).head i ≡ head_of v
+  shrink-head = put-head image i b v strong.weak x.puts mine needed
 
-  address_new : (p : Place) → (frame new).address i p ≡ address_of image (head_of v) p
-  unfolding new
-  address_new = put-address image i b v strong.weak x.puts mine needed
+  pub shrink-address : (p : Place) → (frame (put_inode image i b)).address i p ≡ address_of image (head_of v) p
+  shrink-address = put-address image i b v strong.weak x.puts mine needed
 
   same_tree : tree (frame new) ≡ tree (frame image)
-  unfolding new
   same_tree = put-tree image i b v strong.weak x.puts mine needed same_kind same_slots
 
   used_stay : (j : ℕ) → ((frame image).head j).is_used ≡ true → ((frame new).head j).is_used ≡ true
-  used_stay = each i (λ j. ((frame image).head j).is_used ≡ true → ((frame new).head j).is_used ≡ true) (λ u. ap (λ (h : Head). h.is_used) head_new ∙ x.used) (λ j ne u. ap (λ (h : Head). h.is_used) (but.heads j ne) ∙ u)
+  used_stay = each i (λ j. ((frame image).head j).is_used ≡ true → ((frame new).head j).is_used ≡ true) (λ u. ap (λ (h : Head). h.is_used) shrink-head ∙ x.used) (λ j ne u. ap (λ (h : Head). h.is_used) (shrink-elsewhere.heads j ne) ∙ u)
 
-  weak_new : IsWeak (frame new)
-  unfolding new
-  weak_new = put-weak image i b v strong.weak x.puts mine needed
+  pub shrink-weak : IsWeak (frame (put_inode image i b))
+  shrink-weak = put-weak image i b v strong.weak x.puts mine needed
       (λ e. absurd (clash used (subst (λ z. ((frame image).head z).is_used ≡ false) (sym e) strong.weak.first)))
       (λ e. same_kind ∙ subst (λ z. is_directory ((frame image).head z) ≡ true) (sym e) strong.weak.root)
       (λ u. x.good) apart no_double
@@ -94,7 +89,6 @@ module _ (image : Image) (asked : Asked) (now i : ℕ) (n m : Node) (v : Inode) 
   stored = x.nlink ∙ strong.counted i used
 
   view_new : view new ≡ after_calls (view image) (asked ∷ []) now
-  unfolding new
   view_new =
       view_but_one i image new (record {
         first = put-first image i b v strong.weak x.puts mine needed;
@@ -108,45 +102,46 @@ module _ (image : Image) (asked : Asked) (now i : ℕ) (n m : Node) (v : Inode) 
 
   sound_new : IsStrongBut (λ j. j ≢ i) i (frame new)
   sound_new = record {
-    weak = weak_new;
-    counted = λ j ne u. ap (λ (h : Head). h.nlink) (but.heads j ne) ∙ strong.counted j (ap (λ (h : Head). h.is_used) (sym (but.heads j ne)) ∙ u) ∙ ap (λ t. links t j) (sym same_tree);
-    named = λ j ne u. ap (λ t. is_named t j) same_tree ∙ strong.named j (ap (λ (h : Head). h.is_used) (sym (but.heads j ne)) ∙ u);
-    none_past = λ j k ne le. but.addresses j ne (Body k) ∙ strong.none_past j k (subst (λ (h : Head). sectors_of h.size ≤ k) (but.heads j ne) le);
-    single_needed = λ j ne nz. (λ z. list_any (λ k. not (but.addresses j ne (Body k) z == 0)) (range_with_len 10 128)) ∙ strong.single_needed j (λ z. nz (but.addresses j ne Single ∙ z));
+    weak = shrink-weak;
+    counted = λ j ne u. ap (λ (h : Head). h.nlink) (shrink-elsewhere.heads j ne) ∙ strong.counted j (ap (λ (h : Head). h.is_used) (sym (shrink-elsewhere.heads j ne)) ∙ u) ∙ ap (λ t. links t j) (sym same_tree);
+    named = λ j ne u. ap (λ t. is_named t j) same_tree ∙ strong.named j (ap (λ (h : Head). h.is_used) (sym (shrink-elsewhere.heads j ne)) ∙ u);
+    none_past = λ j k ne le. shrink-elsewhere.addresses j ne (Body k) ∙ strong.none_past j k (subst (λ (h : Head). sectors_of h.size ≤ k) (shrink-elsewhere.heads j ne) le);
+    single_needed = λ j ne nz. (λ z. list_any (λ k. not (shrink-elsewhere.addresses j ne (Body k) z == 0)) (range_with_len 10 128)) ∙ strong.single_needed j (λ z. nz (shrink-elsewhere.addresses j ne Single ∙ z));
   }
 
-  last : Image
-  last = put_all inner new
+  module _ (inner : List (ℕ × List ℕ)) (cut : IsCutBy (put_inode image i b) i v inner) where
+    last : Image
+    last = put_all inner new
 
-  sound_last : IsStrongBut (λ j. j ≢ i) i (frame last)
-  unfolding last new
-  sound_last = muted-strong (λ j. j ≢ i) i inner (set image (inode_sector i) b) x.muted sound_new
+    sound_last : IsStrongBut (λ j. j ≢ i) i (frame last)
+    unfolding last
+    sound_last = muted-strong (λ j. j ≢ i) i inner (set image (inode_sector i) b) cut.muted sound_new
 
-  head_last : (frame last).head i ≡ head_of v
-  unfolding last new
-  head_last = muted-heads i inner (set image (inode_sector i) b) x.muted i ∙ head_new
+    head_last : (frame last).head i ≡ head_of v
+    unfolding last
+    head_last = muted-heads i inner (set image (inode_sector i) b) cut.muted i ∙ shrink-head
 
-  tree_last : tree (frame last) ≡ tree (frame image)
-  unfolding last new
-  tree_last = muted-tree i inner (set image (inode_sector i) b) x.muted ∙ same_tree
+    tree_last : tree (frame last) ≡ tree (frame image)
+    unfolding last
+    tree_last = muted-tree i inner (set image (inode_sector i) b) cut.muted ∙ same_tree
 
-  strong_last : IsStrong (frame last)
-  unfolding last new
-  strong_last = record {
-    weak = sound_last.weak;
-    counted = each i (λ j. ((frame last).head j).is_used ≡ true → ((frame last).head j).nlink ≡ links (tree (frame last)) j) (λ u. ap (λ (h : Head). h.nlink) head_last ∙ stored ∙ ap (λ t. links t i) (sym tree_last)) sound_last.counted;
-    named = each i (λ j. ((frame last).head j).is_used ≡ true → is_named (tree (frame last)) j ≡ true) (λ u. ap (λ t. is_named t i) tree_last ∙ s_i.named) sound_last.named;
-    none_past = each i (λ j. (k : ℕ) → sectors_of ((frame last).head j).size ≤ k → (frame last).address j (Body k) ≡ 0) (λ k le. x.none_past k (subst (λ (h : Head). sectors_of h.size ≤ k) head_last le)) (λ j ne k le. sound_last.none_past j k ne le);
-    single_needed = each i (λ j. (frame last).address j Single ≢ 0 → list_any (λ k. not ((frame last).address j (Body k) == 0)) (range_with_len 10 128) ≡ true) x.single_needed (λ j ne nz. sound_last.single_needed j ne nz);
-  }
+    strong_last : IsStrong (frame last)
+    unfolding last
+    strong_last = record {
+      weak = sound_last.weak;
+      counted = each i (λ j. ((frame last).head j).is_used ≡ true → ((frame last).head j).nlink ≡ links (tree (frame last)) j) (λ u. ap (λ (h : Head). h.nlink) head_last ∙ stored ∙ ap (λ t. links t i) (sym tree_last)) sound_last.counted;
+      named = each i (λ j. ((frame last).head j).is_used ≡ true → is_named (tree (frame last)) j ≡ true) (λ u. ap (λ t. is_named t i) tree_last ∙ s_i.named) sound_last.named;
+      none_past = each i (λ j. (k : ℕ) → sectors_of ((frame last).head j).size ≤ k → (frame last).address j (Body k) ≡ 0) (λ k le. cut.none_past k (subst (λ (h : Head). sectors_of h.size ≤ k) head_last le)) (λ j ne k le. sound_last.none_past j k ne le);
+      single_needed = each i (λ j. (frame last).address j Single ≢ 0 → list_any (λ k. not ((frame last).address j (Body k) == 0)) (range_with_len 10 128) ≡ true) cut.single_needed (λ j ne nz. sound_last.single_needed j ne nz);
+    }
 
-  pub shrink-plan : IsPlanOf image (asked ∷ []) now ((inode_sector i, b) ∷ inner)
-  unfolding last new
-  shrink-plan = record {
-    past = (omega arith, muted-past i inner (set image (inode_sector i) b) x.muted);
-    inside = ((inode_sector-inside image strong.weak i x.puts.inside).2, muted-inside i (length image) inner (set image (inode_sector i) b) (length-set image (inode_sector i) b) x.muted);
-    whole = (x.puts.long, muted-whole i inner (set image (inode_sector i) b) x.muted);
-    prefixes = (record { weak = strong.weak; torn = inl refl }, muted-prefixes i (view image) (asked ∷ []) now inner (set image (inode_sector i) b) x.muted (record { weak = weak_new; torn = inr (inl view_new) }));
-    strong = strong_last;
-    after = muted-view i inner (set image (inode_sector i) b) x.muted ∙ view_new;
-  }
+    pub shrink-plan : IsPlanOf image (asked ∷ []) now ((inode_sector i, b) ∷ inner)
+    unfolding last
+    shrink-plan = record {
+      past = (omega arith, muted-past i inner (set image (inode_sector i) b) cut.muted);
+      inside = ((inode_sector-inside image strong.weak i x.puts.inside).2, muted-inside i (length image) inner (set image (inode_sector i) b) (length-set image (inode_sector i) b) cut.muted);
+      whole = (x.puts.long, muted-whole i inner (set image (inode_sector i) b) cut.muted);
+      prefixes = (record { weak = strong.weak; torn = inl refl }, muted-prefixes i (view image) (asked ∷ []) now inner (set image (inode_sector i) b) cut.muted (record { weak = shrink-weak; torn = inr (inl view_new) }));
+      strong = strong_last;
+      after = muted-view i inner (set image (inode_sector i) b) cut.muted ∙ view_new;
+    }

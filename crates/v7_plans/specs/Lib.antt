@@ -1,3 +1,4 @@
 pub mod Placed
 pub mod Quiet
 pub mod Setting
+pub mod Resizing

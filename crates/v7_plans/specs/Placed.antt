@@ -1,12 +1,9 @@
 -- Where the blocks of an inode that is put stand.
-use Rattle.std.specs.Prelude.{◌≡◌, ◌≢◌, ℕ, ◌<◌, ◌≤◌, true, false, [], not, ◌==◌}
+use Rattle.std.specs.Prelude.{◌≡◌, ◌≢◌, ℕ, ◌<◌, ◌≤◌, true, not, ◌==◌}
 use Rattle.std.specs.List.{range_with_len, list_any}
-use Rattle.v7_layout.specs.declared.inode.Inode.{Inode}
-use Rattle.files_model.specs.Files.{Node, sectors_of}
+use Rattle.files_model.specs.Files.{sectors_of}
 use Rattle.stable.specs.Store.{Image}
-use Rattle.v7_map.specs.Frame.{Frame, Head, Place, Body, Single, Double, head_of, is_directory, address_of, frame}
-use Rattle.v7_map.specs.Tree.{tree, links}
-use Rattle.v7_map.specs.View.{node_of, body_of}
+use Rattle.v7_map.specs.Frame.{Frame, Head, Place, Body, Single, Double, is_directory, address_of, frame}
 use Rattle.v7_map.specs.Weak.{IsGood}
 
 -- a data block that no other inode has

@@ -37,8 +37,8 @@ pub record SetsInode (image : Image) (i : ℕ) (v : Inode) (m : Node) (b : List 
   pub generation : v.generation ≡ (inode_at image i).generation
   pub is : node_of (tree (frame image)) i v (body_of image (head_of v) (address_of image (head_of v))) ≡ m
 
--- The bytes put inode v of number i, which stands for node m with fewer blocks; then the block of addresses is put without those past its size.
-pub record ShrinksInode (image : Image) (i : ℕ) (v : Inode) (m : Node) (b : List ℕ) (inner : List (ℕ × List ℕ)) : Type 0 where
+-- The bytes put inode v of number i, which stands for node m with fewer blocks; its block of addresses may still have some past its size.
+pub record ShrinksTo (image : Image) (i : ℕ) (v : Inode) (m : Node) (b : List ℕ) : Type 0 where
   pub puts : PutsInode image i b v
   pub good : IsGood (head_of v)
   pub kept : (q : Place) → address_of image (head_of v) q ≢ 0 → address_of image (head_of v) q ≡ (frame image).address i q
@@ -48,6 +48,9 @@ pub record ShrinksInode (image : Image) (i : ℕ) (v : Inode) (m : Node) (b : Li
   pub nlink : v.nlink ≡ (inode_at image i).nlink
   pub generation : v.generation ≡ (inode_at image i).generation
   pub is : node_of (tree (frame image)) i v (body_of image (head_of v) (address_of image (head_of v))) ≡ m
-  pub muted : AllMuted i inner (put_inode image i b)
-  pub none_past : (k : ℕ) → sectors_of v.size ≤ k → (frame (put_all inner (put_inode image i b))).address i (Body k) ≡ 0
-  pub single_needed : (frame (put_all inner (put_inode image i b))).address i Single ≢ 0 → list_any (λ k. not ((frame (put_all inner (put_inode image i b))).address i (Body k) == 0)) (range_with_len 10 128) ≡ true
+
+-- Then these puts don't show, and after them it has none past its size.
+pub record IsCutBy (image : Image) (i : ℕ) (v : Inode) (inner : List (ℕ × List ℕ)) : Type 0 where
+  pub muted : AllMuted i inner image
+  pub none_past : (k : ℕ) → sectors_of v.size ≤ k → (frame (put_all inner image)).address i (Body k) ≡ 0
+  pub single_needed : (frame (put_all inner image)).address i Single ≢ 0 → list_any (λ k. not ((frame (put_all inner image)).address i (Body k) == 0)) (range_with_len 10 128) ≡ true

@@ -4,6 +4,6 @@
 mod laws;
 
 pub use laws::{
-    quiet_puts_may_come_first, setting_is_planned, shrinking_is_planned,
-    zeros_past_the_size_are_quiet,
+    a_shorter_file_is_planned, an_accepted_setattr_is_planned, quiet_puts_may_come_first,
+    setting_is_planned, shrinking_is_planned, zeros_past_the_size_are_quiet,
 };

@@ -29,7 +29,6 @@ use Rattle.v7_mend.specs.Repairs.{Repairs, CanMend, IsMended}
 use Rattle.v7_repair.specs.Free.{AreLeft, HasRoom}
 use Rattle.v7_repair.specs.Leaves.{IsRepaired}
 use Rattle.v7_repair.specs.Runs.{repair_puts}
-use Rattle.v7_sets.specs.Sets.{AreSpare}
 use Rattle.v7_sets.specs.declared.sets.Sets.{Sets}
 use Rattle.v7_repair.specs.declared.mended.Mended.{Mended}
 use Rattle.v7_repair.proofs.Left.{sets_are}
@@ -45,7 +44,7 @@ ends_at : (image : Image) → (frame image).fsize ≡ (super_of (sector_at image
 unfolding frame super_of
 ends_at image = refl
 
-size_parts : (mark isize fsize sectors : ℕ) → has_sizes mark isize fsize sectors ≡ true → (3 ≤ isize) × (isize ≤ 8193) × (isize < fsize) × (fsize ≤ sectors) × (fsize ≤ 1048576)
+size_parts : (mark isize fsize sectors : ℕ) → has_sizes mark isize fsize sectors ≡ true → (3 ≤ isize) × (isize ≤ 8193) × (isize < fsize) × (fsize ≤ sectors)
 size_parts mark isize fsize sectors e =
     let last : Bool = leb fsize sectors && leb fsize 1048576 in
     let low = and_right (mark == 1) (leb 3 isize && (leb isize 8193 && (ltb isize fsize && last))) e in
@@ -56,43 +55,29 @@ size_parts mark isize fsize sectors e =
       leb-true isize 8193 (and_left (leb isize 8193) (ltb isize fsize && last) high),
       ltb-true isize fsize (and_left (ltb isize fsize) last above),
       leb-true fsize sectors (and_left (leb fsize sectors) (leb fsize 1048576) within),
-      leb-true fsize 1048576 (and_right (leb fsize sectors) (leb fsize 1048576) within),
     )
 
 -- the numbers of a super-block
 module _ (known : Undamaged) (sectors : ℕ) (entries : HasEntries sectors known) where
-  parts : (3 ≤ known.super_block.s_isize) × (known.super_block.s_isize ≤ 8193) × (known.super_block.s_isize < known.super_block.s_fsize) × (known.super_block.s_fsize ≤ sectors) × (known.super_block.s_fsize ≤ 1048576)
+  parts : (3 ≤ known.super_block.s_isize) × (known.super_block.s_isize ≤ 8193) × (known.super_block.s_isize < known.super_block.s_fsize) × (known.super_block.s_fsize ≤ sectors)
   parts = size_parts known.super_block.mark known.super_block.s_isize known.super_block.s_fsize sectors entries.sizes
 
   pub few_puts : 9 * (known.super_block.s_isize - 2) ≤ repair_puts
   few_puts = let high = parts.1 in omega (arith, high)
 
-  module _ (sets : Sets) (room : HasRoom known sets) where
-    set_below : (b : ℕ) → is_free sets.blocks b ≡ true → b < known.super_block.s_fsize
-    set_below b e = ⊎_elim
-        (λ (lt : b < length sets.blocks). let long = room.blocks in omega (arith, lt, long))
+  pub fits_store : (sets : Sets) → HasRoom known sets → FitStore sectors sets.blocks sets.inodes
+  fits_store sets room = record {
+    two = (let low = parts.0 in let above = parts.2 in let within = parts.3 in omega (arith, low, above, within));
+    within = λ b e. ⊎_elim
+        (λ (lt : b < length sets.blocks). let long = room.blocks in let within = parts.3 in omega (arith, lt, long, within))
         (λ (ge : length sets.blocks ≤ b). absurd (none (is_free sets.blocks b) e (get_or_past sets.blocks b false ge)))
-        (cases_lt b (length sets.blocks))
-      where
-        none : (b : Bool) → b ≡ true → b ≡ false → ⊥
-        none true t f = absurd (cc)
-        none false t f = absurd (cc)
-
-    pub fits_store : FitStore sectors sets.blocks sets.inodes
-    fits_store = record {
-      two = (let low = parts.0 in let above = parts.2 in let within = parts.3 in omega (arith, low, above, within));
-      within = λ b e. let below = set_below b e in let within = parts.3 in omega (arith, below, within);
-      numbers = (let long = room.inodes in let all = entries.all in let high = parts.1 in omega (arith, long, all, high));
-    }
-
-    pub spare_blocks : AreSpare sectors sets.blocks
-    spare_blocks b e =
-        let below = set_below b e in
-        let past = room.past b e in
-        let low = parts.0 in
-        let within = parts.3 in
-        let small = parts.4 in
-        (omega (arith, past, low), omega (arith, below, within, small))
+        (cases_lt b (length sets.blocks));
+    numbers = (let long = room.inodes in let all = entries.all in let high = parts.1 in omega (arith, long, all, high));
+  }
+    where
+      none : (b : Bool) → b ≡ true → b ≡ false → ⊥
+      none true t f = absurd (cc)
+      none false t f = absurd (cc)
 
 pub can_mend : (image : Image) (known : Undamaged) (counts : List ℕ) → IsUndamaged image known → length known.counts.items ≡ length known.types.items → counts ≡ known.counts.items → CanMend image known.super_block.s_isize counts
 can_mend image known counts is long same = record {

@@ -1,5 +1,5 @@
 -- What is free after a repair, by what is known before it.
-use Rattle.std.specs.Prelude.{◌≡◌, ◌≤◌, ◌^◌, ◌-◌, ℕ, Bool, true, List, length, nat_lt, nat_le, ◌&&◌, not}
+use Rattle.std.specs.Prelude.{◌≡◌, ◌^◌, ◌-◌, ℕ, Bool, List, length, nat_lt, nat_le, ◌&&◌, not}
 use Rattle.index_sets.specs.Free.{is_free}
 use Rattle.stable.specs.Store.{Image}
 use Rattle.v7_map.specs.Image.{inode_at, inodes_before, isize_of}
@@ -26,8 +26,7 @@ pub record AreLeft (image : Image) (needed : List Bool) (sets : Sets) : Type 0 w
   pub blocks : (b : ℕ) → is_free sets.blocks b ≡ is_left (isize_of image) needed b
   pub inodes : (i : ℕ) → is_free sets.inodes i ≡ is_fresh image i
 
--- the sets have room for each block and each i-number of the volume of which this is known, and only data blocks
+-- the sets have room for each block and each i-number of the volume of which this is known
 pub record HasRoom (known : Undamaged) (sets : Sets) : Type 0 where
   pub blocks : length sets.blocks ≡ known.super_block.s_fsize
   pub inodes : length sets.inodes ≡ length known.types.items
-  pub past : (b : ℕ) → is_free sets.blocks b ≡ true → known.super_block.s_isize ≤ b

@@ -4,7 +4,6 @@ ghost use Rattle.std.specs.Prelude.{IfOk};
 ghost use Rattle.v7_make.specs.Chains.{FitStore};
 ghost use Rattle.v7_repair.specs.Leaves.{Leaves};
 ghost use Rattle.v7_repair.specs.Runs.{HasRun};
-ghost use Rattle.v7_sets.specs.Sets.{AreSpare};
 
 use crate::free::find_free;
 use crate::mended::{Mended, Repaired};
@@ -23,7 +22,6 @@ use v7_mend::mend;
 pub fn repair<S: Stable>(alloc: Global, store: &mut S) -> Result<Mended, RepairFault>
     ensures leaves { S.tells → Leaves (S.image store.old) (S.image store.new) result }
     ensures fits { IfOk result (λ mended. FitStore (S.sector_count store.old) mended.sets.blocks mended.sets.inodes) }
-    ensures spare { IfOk result (λ mended. AreSpare (S.sector_count store.old) mended.sets.blocks) }
     ensures run { HasRun S.Stable store.old store.new result }
 {
     let known = match find_damage(alloc, store) {

@@ -1,5 +1,5 @@
 -- What is free on a volume.
-use Rattle.std.specs.Prelude.{◌≡◌, ◌≢◌, ℕ, ◌+◌, ◌-◌, ◌^◌, ◌<◌, ◌≤◌, min, Bool, true, false, List, length, Some}
+use Rattle.std.specs.Prelude.{◌≡◌, ◌≢◌, ℕ, ◌+◌, ◌-◌, ◌^◌, ◌<◌, ◌≤◌, Bool, true, false, List, length, Some}
 use Rattle.std.specs.Ordering.{nat_cmp}
 use Rattle.std.specs.FinMap.{FinMap, get}
 use Rattle.index_sets.specs.Free.{is_free}
@@ -33,7 +33,3 @@ pub record AreSets (f : Frame) (generations : FinMap nat_cmp ℕ) (blocks inodes
 -- the sets are those of an image
 abbrev pub AreSetsOf : Image → List Bool → List Bool → Type 0
 AreSetsOf image blocks inodes = AreSets (frame image) (view image).generations blocks inodes
-
--- the blocks of a set are past the super-block, and a store of so many sectors and an inode of three bytes an address can have them
-abbrev pub AreSpare : ℕ → List Bool → Type 0
-AreSpare sectors blocks = (a : ℕ) → is_free blocks a ≡ true → (2 ≤ a) × (a < min sectors 1048576)

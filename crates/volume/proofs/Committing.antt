@@ -7,7 +7,7 @@ use Rattle.files_model.specs.declared.reply.Reply.{Reply}
 use Rattle.files_model.specs.Batch.{calls_of}
 use Rattle.files_model.specs.Files.{Files}
 use Rattle.files_model.specs.Torn.{Asked}
-use Rattle.plan_file.specs.Free.{HasFewer}
+use Rattle.plan_file.specs.Free.{TakesBlocks}
 use Rattle.plan_file.specs.Planned.{IsPlanned}
 use Rattle.stable.specs.Looked.{Looked}
 use Rattle.stable.specs.Moments.{IsClocked, LeavesOnly}
@@ -20,6 +20,7 @@ use Rattle.v7_map.specs.Plans.{IsPlanOf, IsTornImage}
 use Rattle.v7_map.specs.View.{view}
 use Rattle.v7_map.specs.Weak.{IsWeak}
 use Rattle.v7_map.proofs.Kept.{plan-torn}
+use Rattle.v7_make.specs.Chains.{FitStore}
 use Rattle.v7_sets.specs.declared.sets.Sets.{Sets}
 use Rattle.volume.specs.declared.outcome.Commit.{Commit}
 use Rattle.volume.specs.declared.outcome.Commit.TheVariants as commit
@@ -27,22 +28,19 @@ use Rattle.volume.specs.declared.outcome.Outcome.TheVariants as outcome
 use Rattle.volume.specs.Applied.{Applies}
 use Rattle.volume.specs.Committed.{Commits, CrashLeavesBatch, HasFaultOf, HurtsSo, IsMomentOfBatch, LeavesBatch}
 use Rattle.volume.specs.Keeps.{SameName, SameVolume}
-use Rattle.volume.specs.Rests.{CanServe, IsAtRest}
+use Rattle.volume.specs.Rests.{IsAtRest}
 use Rattle.volume.proofs.Applying.{torn_same}
 use Rattle.volume.proofs.Naming.{name_same, name_planned}
 
 -- ---- the sets
 
--- with fewer free blocks they serve as well
-pub fewer_serve : (sectors sectors' : ℕ) (old new : Sets) → sectors' ≡ sectors → HasFewer old new → CanServe sectors old → CanServe sectors' new
-fewer_serve sectors sectors' old new as_many fewer serve = subst (λ (n : ℕ). CanServe n new) (sym as_many) (record {
-  chain = record {
-    two = serve.chain.two;
-    within = λ b free. serve.chain.within b (fewer.blocks b free);
-    numbers = subst (λ (l : List Bool). length l ≤ 65529) (sym fewer.inodes) serve.chain.numbers;
-  };
-  spare = λ b free. serve.spare b (fewer.blocks b free);
-})
+-- with fewer free blocks they fit as well
+pub fewer_fit : (sectors sectors' : ℕ) (old new : Sets) → sectors' ≡ sectors → TakesBlocks old new → FitStore sectors old.blocks old.inodes → FitStore sectors' new.blocks new.inodes
+fewer_fit sectors sectors' old new as_many fewer fit = subst (λ (n : ℕ). FitStore n new.blocks new.inodes) (sym as_many) (record {
+    two = fit.two;
+    within = λ b free. fit.within b (fewer.blocks b free);
+    numbers = subst (λ (l : List Bool). length l ≤ 65529) (sym fewer.inodes) fit.numbers;
+  })
 
 module _ (image : Image) (calls : List Asked) (now : ℕ) (puts : List (ℕ × List ℕ)) (plan : IsPlanOf image calls now puts) where
   -- some of a plan was put
@@ -55,13 +53,13 @@ module _ (image : Image) (calls : List Asked) (now : ℕ) (puts : List (ℕ × L
 pub put_planned : (puts : List (ℕ × List ℕ)) (old mid new : Image) → mid ≡ old → new ≡ put_all puts mid → new ≡ put_all puts old
 put_planned puts old mid new same all = all ∙ ap (put_all puts) same
 
-module _ (tells : Type 0) (old mid new : Image) (sectors sectors' : ℕ) (sets sets' : Sets) (file : FileId) (ws : List WriteItem) (now : ℕ) (puts : List (ℕ × List ℕ)) (replies : List Reply)
-    (same : mid ≡ old) (as_many : sectors' ≡ sectors) (fewer : HasFewer sets sets') (rest : IsAtRest tells old sectors false sets) (planned : tells → IsPlanned old file ws now sets' puts replies) where
+module _ (tells : Type 0) (old mid new : Image) (sectors sectors' : ℕ) (sets sets' : Sets) (calls : List Asked) (now : ℕ) (puts : List (ℕ × List ℕ))
+    (same : mid ≡ old) (as_many : sectors' ≡ sectors) (fewer : TakesBlocks sets sets') (rest : IsAtRest tells old sectors false sets) (plan : tells → IsPlanOf old calls now puts) where
   -- some of a plan was put: it is hurt
   pub rest_torn : (tells → AfterSome puts mid new) → IsAtRest tells new sectors' true sets'
   rest_torn some = record {
-    fits = fewer_serve sectors sectors' sets sets' as_many fewer rest.fits;
-    weak = λ told. (torn_planned old (calls_of file ws) now puts (planned told).plan mid new same (some told)).weak;
+    fits = fewer_fit sectors sectors' sets sets' as_many fewer rest.fits;
+    weak = λ told. (torn_planned old calls now puts (plan told) mid new same (some told)).weak;
     strong = λ told not. absurd (cc);
     are_sets = λ told not. absurd (cc);
   }
@@ -83,21 +81,22 @@ cause_mended commit.NoMemory a b d le cause = omega (arith, le, cause)
 
 -- ---- what is left
 
-module _ {S : Type 0} (s : Ghosts S) (clocked : IsClocked s.tells s.image s.moment s.left_since) (file : FileId) (ws : List WriteItem) (now : ℕ) where
+module _ {S : Type 0} (s : Ghosts S) (clocked : IsClocked s.tells s.image s.moment s.left_since) (calls : List Asked) (now : ℕ) where
   -- a moment of a plan that was put after a look
   abbrev pub IsTornMoment : S → Image → Type 0
-  IsTornMoment old d = IsTornImage (view (s.image old)) (calls_of file ws) now d × SameName (s.image old) d
+  IsTornMoment old d = IsTornImage (view (s.image old)) calls now d × SameName (s.image old) d
 
-  pub crash_planned : (old mid new : S) (puts : List (ℕ × List ℕ)) → (s.tells → IsWeak (frame (s.image old))) → Looked s old mid → AllPastSuperBlock puts → (s.tells → IsPlanOf (s.image old) (calls_of file ws) now puts)
+  pub crash_planned : (old mid new : S) (puts : List (ℕ × List ℕ)) → (s.tells → IsWeak (frame (s.image old))) → Looked s old mid → AllPastSuperBlock puts → (s.tells → IsPlanOf (s.image old) calls now puts)
       → LeavesOnly s.moment s.left_since mid new (AfterSome puts (s.image mid)) → LeavesOnly s.moment s.left_since old new (IsTornMoment old)
   crash_planned old mid new puts weak looked past plan run =
       goes_on
-      (weaker looked.crash (λ d left same. (torn_same (calls_of file ws) now (s.image old) d same (weak (clocked.told mid (s.moment old) d left)), name_same (s.image old) d same)))
+      (weaker looked.crash (λ d left same. (torn_same calls now (s.image old) d same (weak (clocked.told mid (s.moment old) d left)), name_same (s.image old) d same)))
       run (λ d left some. (
-        torn_planned (s.image old) (calls_of file ws) now puts (plan (clocked.told new (s.moment mid) d left)) (s.image mid) d looked.image some,
+        torn_planned (s.image old) calls now puts (plan (clocked.told new (s.moment mid) d left)) (s.image mid) d looked.image some,
         name_planned puts (s.image old) (s.image mid) d looked.image past some,
       ))
 
+module _ {S : Type 0} (s : Ghosts S) (clocked : IsClocked s.tells s.image s.moment s.left_since) (file : FileId) (ws : List WriteItem) (now : ℕ) where
   -- ---- a mend first
 
   moment_mended : (old d : Image) (o : Commit) → SameVolume old d → IsMomentOfBatch old file ws now o d

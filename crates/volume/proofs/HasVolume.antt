@@ -17,7 +17,7 @@ not_true : (b : Bool) → (b ≡ true → ⊥) → b ≡ false
 not_true false never = refl
 not_true true never = absurd (never refl)
 
-frame-sectors : (image : Image) → (frame image).sectors ≡ length image
+pub frame-sectors : (image : Image) → (frame image).sectors ≡ length image
 unfolding frame
 frame-sectors image = refl
 

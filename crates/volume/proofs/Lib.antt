@@ -1,10 +1,12 @@
 pub mod Applying
 pub mod Committing
 pub mod Counting
+pub mod GivenBack
 pub mod HasVolume
 pub mod OpenMarks
 pub mod Naming
 pub mod Reading
 pub mod Resting
+pub mod Setting
 pub mod Starts
 pub mod Stopping

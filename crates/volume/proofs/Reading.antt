@@ -1,7 +1,7 @@
 -- What reading calls answer, and the bytes that they read.
-use Rattle.std.proofs.Common.{◌≡◌, ℕ, ◌+◌, ◌-◌, ◌*◌, ◌<◌, ◌≤◌, min, max, false, cond, List, ◌++◌, length, take, drop, Option, Some, None, refl, sym, ap, ◌∙◌, arith, ⊎_elim, length-drop}
+use Rattle.std.proofs.Common.{◌≡◌, ℕ, ◌+◌, ◌-◌, ◌*◌, ◌<◌, ◌≤◌, min, max, Bool, true, false, cond, ◌==◌, [], get_or, List, ◌++◌, length, take, drop, Option, Some, None, refl, sym, ap, ◌∙◌, arith, ⊎_elim, length-drop}
 use Rattle.std.proofs.lemmas.Bool.{cases_lt}
-use Rattle.std.proofs.lemmas.List.{take_all}
+use Rattle.std.proofs.lemmas.List.{drop-replicate, take_all}
 use Rattle.files_model.specs.declared.attributes.FileId.{FileId}
 use Rattle.files_model.specs.declared.credential.Cred.{Cred}
 use Rattle.files_model.specs.declared.call.Call.TheVariants.{Getattr, Read}
@@ -9,15 +9,22 @@ use Rattle.files_model.specs.declared.reply.Reply.{Reply}
 use Rattle.files_model.specs.declared.reply.Reply.TheVariants as reply
 use Rattle.files_model.specs.declared.reply.Stat.{Stat}
 use Rattle.files_model.specs.declared.reply.Stat.TheVariants as stat
-use Rattle.files_model.specs.Files.{Files, Node, live}
-use Rattle.files_model.specs.Step.{step, getattr_row, read_row, read_refusal, content, at_live, unless, attr_of, most_read}
+use Rattle.files_model.specs.Files.{Files, Node, clipped, live}
+use Rattle.files_model.specs.Step.{step, getattr_row, read_row, read_refusal, content, at_live, unless, attr_of, most_read, zeros}
+use Rattle.files_model.proofs.Clips.{clipped_fixed}
+use Rattle.plan_file.specs.Contents.{old_content}
+use Rattle.plan_file.specs.Places.{ArePlaces}
+use Rattle.plan_file.specs.declared.places.Places.{Places}
+use Rattle.plan_file.proofs.Known.{at_body}
 use Rattle.stable.specs.Store.{Image}
 use Rattle.v7_layout.specs.declared.inode.Inode.{Inode}
 use Rattle.v7_map.specs.Image.{IsImage, inode_at}
 use Rattle.v7_map.specs.Frame.{frame}
-use Rattle.v7_map.specs.Stored.{is_standing, stored_attr, stored_sector, stored_content, read_refusal_by, read_bytes, answer_by}
+use Rattle.v7_map.specs.Stored.{is_standing, sector_in, stored_attr, stored_sector, stored_content, read_refusal_by, read_bytes, answer_by}
 use Rattle.v7_map.specs.View.{view}
 use Rattle.v7_map.specs.Weak.{IsStrong}
+use Rattle.v7_map.proofs.Frames.{and_left, and_right}
+use Rattle.v7_map.proofs.SectorOf.{sector_in-address}
 use Rattle.v7_map.proofs.Answers.{getattr-answer, read-answer}
 use Rattle.v7_map.proofs.Contents.{take-more, content-part, length-content}
 use Rattle.v7_map.specs.declared.found.Found.{Found}
@@ -102,6 +109,15 @@ module _ (image : Image) (n : Inode) (whole : IsImage image) where
       let least : end - offset ≡ min (min count most_read) (length ys) = omega (arith, is, long) in
       ap (λ m. take m ys) least ∙ take-least (min count most_read) ys
 
+  -- one sector, by its block
+  pub part_stored : (k a : ℕ) → a ≡ sector_in image n k → old_content image n.size k a ≡ stored_sector image n k
+  unfolding stored_sector
+  part_stored k a is = ap (old_content image n.size k) is ∙ by_block (sector_in image n k == 0)
+    where
+      by_block : (t : Bool) → clipped n.size k (cond t zeros (get_or image (sector_in image n k) [])) ≡ cond t zeros (clipped n.size k (get_or image (sector_in image n k) []))
+      by_block true = clipped_fixed n.size k zeros (drop-replicate (n.size - 512 * k) 512 0)
+      by_block false = refl
+
   -- those up to one sector more
   pub read_more : (offset end k : ℕ) → offset < 512 * k + 512 → 512 * k < end → end ≤ n.size → offset ≤ end
       → take (min (512 * k + 512) end - offset) (drop offset (stored_content image n))
@@ -116,3 +132,11 @@ module _ (image : Image) (n : Inode) (whole : IsImage image) where
       ∙ take-more so_far more offset (stored_content image n)
       ∙ ap (λ m. take so_far (drop offset (stored_content image n)) ++ take more (drop m (stored_content image n))) at
       ∙ ap (λ ys. take so_far (drop offset (stored_content image n)) ++ ys) (content-part image n whole k skipped more (omega (arith, starts, ends, some)) (omega (arith, starts, ends, below, some)))
+
+-- the places of a file that stands are where its sectors are
+pub places_in : (image : Image) → IsStrong (frame image) → IsImage image → (file : FileId) (found : Found) → IsFile image file found → (places : Places) (sectors : ℕ) → sectors ≡ min (length image) 1048576
+    → ArePlaces image sectors found.inode places → (k : ℕ) → k < 138 → get_or places.body k 0 ≡ sector_in image found.inode k
+places_in image strong whole file found is places sectors s_is are k lt =
+    at_body image strong whole file found is places sectors s_is are k lt
+    ∙ sector_in-address image strong.weak file.ino (and_left _ _ (and_right _ _ is.stands)) k
+    ∙ ap (λ (n : Inode). sector_in image n k) (sym is.inode)

@@ -19,13 +19,14 @@ use Rattle.v7_map.specs.View.{view}
 use Rattle.v7_map.specs.Weak.{IsWeak}
 use Rattle.v7_map.proofs.AnyFrame.{frame-IsFrame}
 use Rattle.v7_map.proofs.Weakness.{no_damage_when_weak}
+use Rattle.v7_make.specs.Chains.{FitStore}
 use Rattle.v7_sets.specs.Sets.{AreSets, AreSetsOf}
 use Rattle.v7_sets.specs.declared.sets.Sets.{Sets}
 use Rattle.volume.specs.declared.outcome.Outcome.{Outcome}
 use Rattle.volume.specs.declared.outcome.Outcome.TheVariants as outcome
 use Rattle.volume.specs.Applied.{Applies, CrashLeaves, HasFault, HasFormAt, Hurts, IsMomentOf, LeavesFiles}
 use Rattle.volume.specs.Keeps.{SameVolume}
-use Rattle.volume.specs.Rests.{CanServe, IsAtRest}
+use Rattle.volume.specs.Rests.{IsAtRest}
 
 -- ---- what stays
 
@@ -46,7 +47,7 @@ fault_weak image sector kind weak is =
 pub rest_damaged : (tells : Type 0) (old new : Image) (sectors sectors' : ℕ) (hurt : Bool) (sets : Sets) → (tells → ⊥) → sectors' ≡ sectors
     → IsAtRest tells old sectors hurt sets → IsAtRest tells new sectors' false sets
 rest_damaged tells old new sectors sectors' hurt sets never as_many rest = record {
-  fits = subst (λ (n : ℕ). CanServe n sets) (sym as_many) rest.fits;
+  fits = subst (λ (n : ℕ). FitStore n sets.blocks sets.inodes) (sym as_many) rest.fits;
   weak = λ told. absurd (never told);
   strong = λ told sound. absurd (never told);
   are_sets = λ told sound. absurd (never told);

@@ -57,6 +57,7 @@ CrashLeaves files call cred now outcome.NoMemory image = IsUntouched files image
 abbrev pub HasForm : Call → Reply → Type 0
 HasForm c (reply.Refused status) = Unit {0}
 HasForm (call.Getattr file) (reply.Attr attr) = Unit {0}
+HasForm (call.Setattr file set) (reply.Attr attr) = Unit {0}
 HasForm (call.Read file offset count) (reply.Data attr bytes) = length bytes ≤ most_read
 HasForm (call.Write file offset bytes) (reply.Attr attr) = Unit {0}
 HasForm c r = ⊥

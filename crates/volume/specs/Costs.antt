@@ -12,11 +12,13 @@ use Rattle.volume.specs.Mends.{mend_puts}
 
 -- how many sectors a call puts at most, whatever the files
 abbrev pub most_puts : Call → ℕ
+most_puts (call.Setattr file set) = plan_puts
 most_puts (call.Write file offset bytes) = plan_puts
 most_puts c = 0
 
 -- how many it may put on these files
 abbrev pub call_cost : Files → Call → Cred → ℕ → ℕ
+call_cost files (call.Setattr file set) cred now = plan_puts
 call_cost files (call.Write file offset bytes) cred now = cost files file (record { cred = cred; offset = offset; bytes = bytes } ∷ []) now
 call_cost files c cred now = 0
 

@@ -5,19 +5,14 @@ use Rattle.stable.specs.declared.store.Stable.{Ghosts}
 use Rattle.v7_map.specs.Frame.{frame}
 use Rattle.v7_map.specs.Weak.{IsWeak, IsStrong}
 use Rattle.v7_make.specs.Chains.{FitStore}
-use Rattle.v7_sets.specs.Sets.{AreSetsOf, AreSpare}
+use Rattle.v7_sets.specs.Sets.{AreSetsOf}
 use Rattle.v7_sets.specs.declared.sets.Sets.{Sets}
 use Rattle.volume.specs.declared.mounted.Volume.{Volume}
 use Rattle.volume.specs.Mounted.{store_of, is_hurt, sets_of}
 
--- what is asked of the sets whatever a store of so many sectors tells: its chain can be written, and its free blocks can be given to files
-pub record CanServe (sectors : ℕ) (sets : Sets) : Type 0 where
-  pub chain : FitStore sectors sets.blocks sets.inodes
-  pub spare : AreSpare sectors sets.blocks
-
 -- It can be mended, and unless it is hurt there is nothing to mend and the sets are those of its image. What is asked of any store holds whether contents are told or not.
 pub record IsAtRest (tells : Type 0) (image : Image) (sectors : ℕ) (hurt : Bool) (sets : Sets) : Type 0 where
-  pub fits : CanServe sectors sets
+  pub fits : FitStore sectors sets.blocks sets.inodes
   pub weak : tells → IsWeak (frame image)
   pub strong : tells → hurt ≡ false → IsStrong (frame image)
   pub are_sets : tells → hurt ≡ false → AreSetsOf image sets.blocks sets.inodes

@@ -10,6 +10,7 @@ ghost use Rattle.volume.specs.Rests.{RestsOn};
 use crate::getattr::getattr;
 use crate::outcome::Outcome;
 use crate::read::read;
+use crate::setattr::setattr;
 use crate::write::write;
 use files_model::{Call, Cred};
 use stable::Stable;
@@ -61,6 +62,7 @@ pub fn make_call<S: Stable>(
 {
     match call {
         Call::Getattr { file } => getattr(store, *file, cred, now),
+        Call::Setattr { file, set } => setattr(alloc, store, sets, *file, set, cred, now),
         Call::Read {
             file,
             offset,

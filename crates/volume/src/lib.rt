@@ -5,11 +5,13 @@ mod batch;
 mod calling;
 mod fault;
 mod getattr;
+mod giving;
 mod marking;
 mod mounted;
 mod opening;
 mod outcome;
 mod read;
+mod setattr;
 mod starting;
 mod write;
 

@@ -5,10 +5,10 @@ ghost use Rattle.stable.specs.Moments.{LeavesOnly};
 ghost use Rattle.stable.specs.States.{SomePuts};
 ghost use Rattle.stable.specs.Store.{StaysOpenable};
 ghost use Rattle.v7_damage.specs.declared.damage.RepairFault.TheVariants as fault;
+ghost use Rattle.v7_make.specs.Chains.{FitStore};
 ghost use Rattle.v7_repair.specs.Runs.{repair_puts};
 ghost use Rattle.volume.specs.Keeps.{MayOpen};
 ghost use Rattle.volume.specs.Opens.{Starts};
-ghost use Rattle.volume.specs.Rests.{CanServe};
 
 use crate::marking::mark_open;
 use crate::opening::{Title, look};
@@ -27,7 +27,7 @@ pub struct Opening {
 /// Mends the volume on a store, says in its super-block that it is open, and reads its name and its root.
 pub fn open_store<S: Stable>(alloc: Global, store: &mut S, now: u32) -> Result<Opening, RepairFault>
     ensures starts { S.tells → Starts (S.image store.old) (S.image store.new) now result }
-    ensures fits { IfOk result (λ opening. CanServe (S.sector_count store.old) opening.mended.sets) }
+    ensures fits { IfOk result (λ opening. FitStore (S.sector_count store.old) opening.mended.sets.blocks opening.mended.sets.inodes) }
     ensures later { S.faults store.old ≤ S.faults store.new }
     ensures cause { IsErrOf result fault.Failed → Rose (S.faults store.old) (S.faults store.new) }
     ensures crash { LeavesOnly S.moment S.left_since store.old store.new (MayOpen (S.image store.old)) }

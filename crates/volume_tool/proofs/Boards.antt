@@ -1,12 +1,14 @@
 -- A rig that is ready for a volume, and one on which it was made.
-use Rattle.std.proofs.Common.{arith, ◌≡◌, ◌∙◌, inl, inr, ⊎_elim, ℕ, ◌+◌, ◌^◌, ◌<◌, ◌≤◌, true, List, [], ◌++◌, length, take, drop, get_or, Result, Ok, Err, IfOk, OnOk, refl, sym, ap, subst}
+use Rattle.std.proofs.Common.{arith, ◌≡◌, ◌⊎◌, ◌∙◌, inl, inr, ⊎_elim, ℕ, ◌+◌, ◌^◌, ◌<◌, ◌≤◌, true, List, [], ◌++◌, length, take, drop, get_or, Result, Ok, Err, OnOk, refl, sym, ap, subst}
 use Rattle.std.proofs.lemmas.Bool.{true≢false}
 use Rattle.std.proofs.lemmas.List.{get_or-set_same}
 use Rattle.stable.specs.Counts.{Rose}
 use Rattle.stable.specs.Moments.{IsClocked}
 use Rattle.stable.specs.States.{SomePuts}
-use Rattle.stable.specs.Store.{Image, StaysOpenable, name_in}
-use Rattle.stable.specs.declared.state.State.TheVariants.{Down}
+use Rattle.stable.specs.Store.{Image, name_in}
+use Rattle.stable.specs.declared.snapshot.Snapshot.{Snapshot}
+use Rattle.stable.specs.declared.store.Stable.{Ghosts as StoreGhosts}
+use Rattle.stable.specs.declared.state.State.TheVariants.{Up, Down}
 use Rattle.rig.specs.Devices.{Devices, Sizes, HasShape, IsBoard, with_kept, with_sector}
 use Rattle.rig.specs.declared.rig.Rig.{Ghosts}
 use Rattle.nvram_map.specs.Formats.{formatted}
@@ -28,8 +30,8 @@ use Rattle.v7_make.specs.Sizes.{fitting, list_blocks}
 use Rattle.v7_make.specs.declared.fault.MakeFault.{MakeFault}
 use Rattle.v7_make.specs.declared.fault.MakeFault.TheVariants as make
 use Rattle.run_lines.specs.Overlays.{overlay_of}
-use Rattle.run_lines.proofs.Overlays.{unit_store, opens_now}
-use Rattle.volume_tool.specs.Made.{HasEmptyBoard, IsReady, MakesOn}
+use Rattle.run_lines.proofs.Overlays.{opens_now}
+use Rattle.volume_tool.specs.Made.{HasEmptyBoard, HasMade, IsReady, MakesOn, MakesUnit}
 use Rattle.volume_tool.specs.Words.{Plan}
 
 -- a super-block with that name
@@ -94,34 +96,46 @@ made_board sizes name d (inr (inr named)) some kept empty titled = record {
   kept = kept;
 }
 
--- what making answers, by what it says of the unit on the rig
+-- what making answers of a store
+pub makes_unit : {V : Type 0} (s : StoreGhosts V) (plan : Plan) {old new : V} (result : Result ℕ MakeFault) → fitting plan.size plan.inodes ≡ Ok tt → IsAnswered s plan.size plan.inodes old new result → MakesUnit plan (s.faults old) (s.faults new) result
+makes_unit s plan (Ok left) fits answered = answered.says.1
+makes_unit s plan (Err make.Failed) fits answered = answered.says.1
+makes_unit s plan (Err make.NoMemory) fits answered = tt
+makes_unit s plan (Err make.TooLarge) fits answered = let e = sym fits ∙ answered.says.0 in absurd (cc e)
+makes_unit s plan (Err (make.TooSmall need have)) fits answered = let e = sym fits ∙ answered.says.0 in absurd (cc e)
+
+-- what puts leave of the state
+pub puts_state : {count before now : ℕ} {old new : Snapshot} → SomePuts count before now old new → (new.state ≡ old.state) ⊎ (old.state ≡ Up)
+puts_state puts = ⊎_elim (λ same. inl same) (λ failed. inr failed.0) puts.made.state
+
+-- and of the unit on the rig
 module _ {R : Type 0} (r : Ghosts R) (clocked : IsClocked r.tells r.contents r.moment r.left_since) (kept_told : (rig : R) → r.tells → (r.contents rig).kept ≡ r.is_kept rig) (plan : Plan) {rig : R} (ready : IsReady r plan.name rig)
-    (buffers : (r.sizes rig).buffers ≡ plan.buffers) (fits : fitting plan.size plan.inodes ≡ Ok tt) (unit unit' : Presto R r) (on : rig_of unit ≡ rig) (down : r.tells → state_of unit ≡ Down) (later : r.moment (rig_of unit) ≤ r.moment (rig_of unit'))
-    (opens : r.tells → name_in (sector_at (overlay_of r (rig_of unit)) 1) ≡ plan.name → StaysOpenable (unit_store r).opens_since (unit_store r).moment unit unit')
-    (count : ℕ) (puts : SomePuts count (r.faults (rig_of unit)) (r.faults (rig_of unit')) ((unit_store r).snapshot_of unit) ((unit_store r).snapshot_of unit')) (bare : r.tells → state_of unit' ≡ Down → NoEntry (r.contents (rig_of unit'))) where
+    (buffers : (r.sizes rig).buffers ≡ plan.buffers) (unit unit' : Presto R r) (on : rig_of unit ≡ rig) (down : r.tells → state_of unit ≡ Down) (bare : r.tells → state_of unit' ≡ Down → NoEntry (r.contents (rig_of unit'))) where
   abbrev back : R
   back = rig_of unit'
 
-  -- it is DOWN still
-  still_down : r.tells → state_of unit' ≡ Down
-  still_down tells = ⊎_elim (λ same. same ∙ down tells) (λ failed. let e = sym (down tells) ∙ failed.0 in absurd (cc e)) puts.made.state
+  has_board : 0 < plan.buffers → 0 < (r.sizes (rig_of unit)).buffers
+  has_board some = subst (λ (one : R). 0 < (r.sizes one).buffers) (sym on) (omega (arith, some, buffers))
 
-  open_now : r.tells → 0 < plan.buffers → IsOpenable (r.sizes back) (r.contents back)
-  open_now tells some =
-      let was : IsReady r plan.name (rig_of unit) = subst (λ (one : R). IsReady r plan.name one) (sym on) ready in
-      let has : 0 < (r.sizes (rig_of unit)).buffers = subst (λ (one : R). 0 < (r.sizes one).buffers) (sym on) (omega (arith, some, buffers)) in
-      let since = opens tells (was.titled tells has) (r.moment (rig_of unit)) (omega arith) (opens_now r clocked (rig_of unit) (was.opens tells)) in
-      since (r.contents back) (clocked.now back (r.moment (rig_of unit)) tells later) (r.contents back) (inl refl)
+  module _ {result : Result ℕ MakeFault} (has : HasMade plan unit unit' result) where
+    -- it is DOWN still
+    still_down : r.tells → state_of unit' ≡ Down
+    still_down tells = ⊎_elim (λ same. same ∙ down tells) (λ failed. let e = sym (down tells) ∙ failed in absurd (cc e)) has.state
 
-  board : r.tells → (left : ℕ) → IsMade (overlay_of r back) plan.size (2 + list_blocks plan.inodes) plan.name plan.second left → 0 < plan.buffers → 0 < (r.sizes back).buffers → HasEmptyBoard (r.sizes back) plan.name (r.contents back)
-  board tells left is some has =
-      made_board (r.sizes back) plan.name (r.contents back) (open_now tells some) has (kept_told back tells ∙ unit'.knows.kept) (bare tells (still_down tells))
-      (made_name (overlay_of r back) plan.size (2 + list_blocks plan.inodes) plan.name plan.second left is)
+    open_now : r.tells → 0 < plan.buffers → IsOpenable (r.sizes back) (r.contents back)
+    open_now tells some =
+        let was : IsReady r plan.name (rig_of unit) = subst (λ (one : R). IsReady r plan.name one) (sym on) ready in
+        let since = has.opens tells (was.titled tells (has_board some)) (opens_now r clocked (rig_of unit) (was.opens tells)) in
+        since (r.contents back) (clocked.now back (r.moment (rig_of unit)) tells has.later) (r.contents back) (inl refl)
 
-  pub makes_on : (result : Result ℕ MakeFault) → IsAnswered (unit_store r) plan.size plan.inodes unit unit' result → (r.tells → IfOk result (λ left. IsMade (overlay_of r back) plan.size (2 + list_blocks plan.inodes) plan.name plan.second left))
-      → MakesOn r plan rig back result
-  makes_on (Ok left) answered made = record { volume = made; board = λ tells. board tells left (made tells); left_is = answered.says.1 }
-  makes_on (Err make.Failed) answered made = subst (λ (one : R). Rose (r.faults one) (r.faults back)) on answered.says.1
-  makes_on (Err make.NoMemory) answered made = tt
-  makes_on (Err make.TooLarge) answered made = let e = sym fits ∙ answered.says.0 in absurd (cc e)
-  makes_on (Err (make.TooSmall need have)) answered made = let e = sym fits ∙ answered.says.0 in absurd (cc e)
+    board : r.tells → (left : ℕ) → IsMade (overlay_of r back) plan.size (2 + list_blocks plan.inodes) plan.name plan.second left → 0 < plan.buffers → HasEmptyBoard (r.sizes back) plan.name (r.contents back)
+    board tells left is some =
+        made_board (r.sizes back) plan.name (r.contents back) (open_now tells some) (has.board (has_board some)) (kept_told back tells ∙ unit'.knows.kept) (bare tells (still_down tells))
+        (made_name (overlay_of r back) plan.size (2 + list_blocks plan.inodes) plan.name plan.second left is)
+
+  pub makes_on : (result : Result ℕ MakeFault) → HasMade plan unit unit' result → MakesOn r plan rig back result
+  makes_on (Ok left) has = record { volume = has.made; board = λ tells. board has tells left (has.made tells); left_is = has.says }
+  makes_on (Err make.Failed) has = subst (λ (one : R). Rose (r.faults one) (r.faults back)) on has.says
+  makes_on (Err make.NoMemory) has = tt
+  makes_on (Err make.TooLarge) has = absurd has.says
+  makes_on (Err (make.TooSmall need have)) has = absurd has.says

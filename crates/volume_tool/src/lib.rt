@@ -1,6 +1,7 @@
 //! The tool of volumes: one is made, inspected, or mended and stopped.
 #![tactic(auto)]
 
+mod boarded;
 mod checking;
 mod lines;
 mod making;

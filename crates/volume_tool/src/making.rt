@@ -6,9 +6,10 @@ ghost use Rattle.stable.specs.declared.state.State.TheVariants.{Down};
 ghost use Rattle.rig.specs.Devices.{with_kept};
 ghost use Rattle.presto_unit.specs.Parts.{rig_of, state_of};
 ghost use Rattle.v7_make.specs.Sizes.{fitting};
-ghost use Rattle.volume_tool.specs.Made.{IsReady, MakesOn};
+ghost use Rattle.volume_tool.specs.Made.{HasMade, IsReady, MakesOn};
 ghost use Rattle.volume_tool.specs.Asking.{plan_read};
 
+use crate::boarded::Boarded;
 use crate::words::Plan;
 use nvram_map::{Board, format};
 use presto_cache::Cache;
@@ -100,6 +101,73 @@ fn start_unit<R: Rig + Drop>(alloc: Global, rig: R, name: [u8; 6]) -> Result<Pre
     }
 }
 
+// Makes a volume as planned on a unit with a board, which stays.
+fn make_boarded<R: Rig + Drop>(
+    alloc: Global,
+    unit: Presto<R>,
+    plan: &Plan,
+) -> (Result<u32, MakeFault>, Presto<R>)
+    requires board { 0 < (R.sizes (rig_of unit)).buffers }
+    requires size { (R.sizes (rig_of unit)).sectors ≡ plan.now.size }
+    requires some { 1 ≤ plan.now.inodes }
+    requires fits { fitting plan.now.size plan.now.inodes ≡ Ok tt }
+    ensures { HasMade (plan_read plan.now) unit result.1 result.0 }
+{
+    let mut store = Boarded { unit };
+    let made = make(
+        alloc,
+        &mut store,
+        plan.size,
+        plan.inodes,
+        plan.name,
+        plan.second,
+    );
+    (made, store.unit)
+}
+
+// Makes a volume as planned on a unit without a board.
+fn make_bare<R: Rig + Drop>(
+    alloc: Global,
+    unit: Presto<R>,
+    plan: &Plan,
+) -> (Result<u32, MakeFault>, Presto<R>)
+    requires none { (R.sizes (rig_of unit)).buffers ≡ 0 }
+    requires size { (R.sizes (rig_of unit)).sectors ≡ plan.now.size }
+    requires some { 1 ≤ plan.now.inodes }
+    requires fits { fitting plan.now.size plan.now.inodes ≡ Ok tt }
+    ensures { HasMade (plan_read plan.now) unit result.1 result.0 }
+{
+    let mut unit = unit;
+    let made = make(
+        alloc,
+        &mut unit,
+        plan.size,
+        plan.inodes,
+        plan.name,
+        plan.second,
+    );
+    (made, unit)
+}
+
+// Makes a volume as planned on a unit that has as many buffers.
+fn make_unit<R: Rig + Drop>(
+    alloc: Global,
+    unit: Presto<R>,
+    plan: &Plan,
+) -> (Result<u32, MakeFault>, Presto<R>)
+    requires buffers { (R.sizes (rig_of unit)).buffers ≡ plan.now.buffers }
+    requires size { (R.sizes (rig_of unit)).sectors ≡ plan.now.size }
+    requires some { 1 ≤ plan.now.inodes }
+    requires fits { fitting plan.now.size plan.now.inodes ≡ Ok tt }
+    ensures { HasMade (plan_read plan.now) unit result.1 result.0 }
+{
+    if plan.buffers == 0 {
+        make_bare(alloc, unit, plan)
+    } else {
+        make_boarded(alloc, unit, plan)
+    }
+}
+
 // Makes a volume as planned on a rig that is ready for it.
 fn make_on<R: Rig + Drop>(alloc: Global, rig: R, plan: &Plan) -> (Result<u32, MakeFault>, R)
     requires ready { IsReady R.Rig plan.now.name rig }
@@ -112,15 +180,7 @@ fn make_on<R: Rig + Drop>(alloc: Global, rig: R, plan: &Plan) -> (Result<u32, Ma
     match start_unit(alloc, rig, plan.name) {
         Err(rig) => (Err(MakeFault::NoMemory), rig),
         Ok(unit) => {
-            let mut unit = unit;
-            let made = make(
-                alloc,
-                &mut unit,
-                plan.size,
-                plan.inodes,
-                plan.name,
-                plan.second,
-            );
+            let (made, unit) = make_unit(alloc, unit, plan);
             (made, unit.into_rig())
         }
     }

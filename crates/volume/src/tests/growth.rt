@@ -7,7 +7,7 @@ ghost use Rattle.volume.specs.Rests.{Rests};
 
 use super::{FILE, opened, owner};
 use crate::{Commit, Outcome, Volume};
-use files_model::{Attr, Call, Data, Reply, Stat, WriteItem};
+use files_model::{Attr, Call, Data, Reply, Sattr, Stat, WriteItem};
 use stable::Stable;
 use std::alloc::Global;
 use std::test::Fail;
@@ -235,5 +235,42 @@ fn a_growing_write_that_failed_is_old_when_it_is_opened_again(rt: HostRuntime) -
         assert!(rt; holds(&mut volume, 698, 4, b"aa"));
         assert!(rt; used(&mut volume)? == 3);
     }
+    Ok(())
+}
+
+// A SETATTR of the size, by the owner.
+fn resize(volume: &mut Volume<Memory>, size: u32) -> Outcome
+    requires { Rests ⟦<Memory as Stable>⟧ volume.old }
+    ensures { Rests ⟦<Memory as Stable>⟧ volume.new }
+{
+    let call = Call::Setattr {
+        file: FILE,
+        set: Sattr {
+            mode: None,
+            uid: None,
+            gid: None,
+            size: Some(size),
+            atime: None,
+            mtime: None,
+        },
+    };
+    volume.apply(&call, &owner(), 2002)
+}
+
+#[test]
+fn what_a_smaller_size_cuts_off_comes_back_as_zeros(rt: HostRuntime) -> Result<(), Fail> {
+    let alloc = rt.alloc();
+    let (mut volume, _) = opened(alloc, store(alloc, &empty(), 64, 0)?)?;
+    let grown = write(alloc, &mut volume, 57_344, &[b'x'; 8192])?;
+    assert!(rt; matches!(grown, Outcome::Reply(Reply::Attr(attr)) if attr.size == 65_536));
+    assert!(rt; used(&mut volume)? == 18);
+    let cut = resize(&mut volume, 65_000);
+    assert!(rt; matches!(cut, Outcome::Reply(Reply::Attr(attr)) if attr.size == 65_000 && attr.mtime == 2002));
+    assert!(rt; used(&mut volume)? == 17);
+    assert!(rt; holds(&mut volume, 57_344, 8192, &[b'x'; 7656]));
+    let back = resize(&mut volume, 65_536);
+    assert!(rt; matches!(back, Outcome::Reply(Reply::Attr(attr)) if attr.size == 65_536));
+    assert!(rt; holds(&mut volume, 65_000, 8192, &[0; 536]));
+    assert!(rt; used(&mut volume)? == 17);
     Ok(())
 }

@@ -1,10 +1,9 @@
-use Rattle.std.proofs.Common.{arith, ◌≡◌, ◌≢◌, ◌≤◌, ◌<◌, min, not, length, true, false, refl, sym, ap, subst, ◌∙◌, ℕ}
+use Rattle.std.proofs.Common.{arith, ◌≡◌, ◌≤◌, ◌<◌, min, not, length, true, false, refl, sym, ap, subst, ◌∙◌, ℕ}
 use Rattle.std.specs.List.{list_any}
 use Rattle.files_model.specs.declared.attributes.Attr.{Attr}
 use Rattle.files_model.specs.Batch.{touches}
 use Rattle.files_model.specs.Space.{size_limit}
 use Rattle.files_model.specs.Step.{is_refused}
-use Rattle.index_sets.specs.Free.{is_free}
 use Rattle.stable.specs.Store.{Image}
 use Rattle.v7_map.specs.Image.{IsImage}
 use Rattle.v7_map.proofs.Whole.{as_long, whole_image}
@@ -13,8 +12,10 @@ use Rattle.plan_file.specs.declared.draft.Draft.{Draft}
 use Rattle.plan_file.specs.Draft.{holds}
 use Rattle.plan_file.specs.Planned.{CanBePut, IsPlanned, IsReady}
 use Rattle.plan_file.specs.Started.{IsFirst}
+use Rattle.plan_file.specs.Free.{AreSpare}
+use Rattle.plan_file.proofs.Freed.{spare-of}
 use Rattle.plan_file.proofs.Later.{IsLater, later, enough, length-draft_replies, touched-held, mapped-high, first-high}
-use Rattle.plan_file.proofs.Placing.{laid-body, laid-single, laid-within, changed-held}
+use Rattle.plan_file.proofs.Placing.{taken_by, laid-held, laid-mapped, laid-within, changed-held}
 use Rattle.plan_file.proofs.Adding.{draft-answers, empty-put}
 use Rattle.plan_file.proofs.Planning.{none-done, batch-done}
 use Rattle.plan_file.proofs.batch_plan.plan_found.Goals as goal
@@ -26,7 +27,7 @@ returns-then-not-any_accepted-clause-planned g c = λ tells strong are is.
     let whole : IsImage image = whole_image S.sector_count g.met.S.Stable.clocked g.met.S.Stable.shape c.args.store.now tells in
     let long : length image ≡ S.sector_count c.args.store.now = (as_long S.sector_count g.met.S.Stable.clocked g.met.S.Stable.shape c.args.store.now tells).size in
     let sectors : ℕ = min (S.sector_count c.args.store.now) 1048576 in
-    let first = subst (λ n. IsFirst c.args.file.ino c.args.found.now.inode c.in_ok-places.places n c.first_draft-draft.result) c.count.ensures c.first_draft-draft.ensures in
+    let first = subst (λ n. IsFirst c.args.file.ino c.args.found.now.inode c.in_ok-places.places n c.first_draft-draft.result) (c.spare_blocks-free.ensures.all (subst (λ (n : ℕ). AreSpare n c.args.sets.now.blocks) (sym (c.sectors.ensures ∙ c.in_ok-places.ensures.looked.sectors)) (spare-of image (S.sector_count c.args.store.now) c.args.sets.now.blocks c.args.sets.now.inodes strong long are))) c.first_draft-draft.ensures in
     let none : list_any (λ r. not (is_refused r)) c.decide-replies.result.items ≡ false = ap (list_any (λ r. not (is_refused r))) (sym c.as_slice.ensures.value) ∙ sym c.any_accepted.ensures ∙ c.if-not-any_accepted.true in
     subst (λ ps. IsPlanned image c.args.file c.args.batch.now c.args.now c.args.sets.now ps c.decide-replies.result.items) (sym c.requires.empty)
     (none-done image strong whole c.args.file c.args.found.now is c.in_ok-places.places sectors (ap (λ m. min m 1048576) (sym long)) (c.in_ok-places.ensures.places tells)
@@ -37,8 +38,8 @@ lay_out-target-requires-clause-room g c =
     let first = c.first_draft-draft.ensures in
     let late : IsLater 138 c.first_draft-draft.result c.decide-replies.new.draft = subst (IsLater 138 c.first_draft-draft.result) (sym c.decide-replies.ensures.draft)
     (later 138 refl c.args.found.now.read_only c.first_draft-draft.result c.args.batch.now c.args.now first.held.long) in
-    let e = enough 138 refl c.args.file.ino c.args.found.now.inode c.in_ok-places.places c.count.result c.first_draft-draft.result c.decide-replies.new.draft first late in
-    let count = c.count.ensures in
+    let e = enough 138 refl c.args.file.ino c.args.found.now.inode c.in_ok-places.places c.spare_blocks-free.result c.first_draft-draft.result c.decide-replies.new.draft first late in
+    let few = c.spare_blocks-free.ensures.few in
     omega arith
 
 pub add_puts-requires-clause-ready : goal.add_puts-requires-clause-ready
@@ -53,17 +54,19 @@ add_puts-requires-clause-ready g c =
     let late : IsLater 138 c.first_draft-draft.result last = subst (IsLater 138 c.first_draft-draft.result) (sym c.decide-replies.ensures.draft)
     (later 138 refl c.args.found.now.read_only c.first_draft-draft.result ws c.args.now first.held.long) in
     let replies = c.as_slice-2.ensures.value ∙ c.decide-replies.ensures.replies in
-    let some : (a : ℕ) → is_free c.args.sets.now.blocks a ≡ true → a ≢ 0 = λ a h z. let low = (c.requires.spare a h).0 in omega arith in
+    let e = enough 138 refl c.args.file.ino c.args.found.now.inode places c.spare_blocks-free.result c.first_draft-draft.result last first late in
+    let spare : 0 < taken_by places last.held last.mapped → AreSpare (S.sector_count c.args.store.now) c.args.sets.now.blocks = λ some.
+    subst (λ (n : ℕ). AreSpare n c.args.sets.now.blocks) (c.sectors.ensures ∙ c.in_ok-places.ensures.looked.sectors) (c.spare_blocks-free.ensures.some (omega arith)) in
     let high = mapped-high 138 refl c.args.found.now.read_only c.first_draft-draft.result ws c.args.now first.held.long
-    (first-high c.args.file.ino c.args.found.now.inode places c.count.result c.first_draft-draft.result first c.in_ok-places.ensures.through) in
+    (first-high c.args.file.ino c.args.found.now.inode places c.spare_blocks-free.result c.first_draft-draft.result first c.in_ok-places.ensures.through) in
     subst (λ (n : ℕ). IsReady n c.args.file.ino places target last.attr (kept_of ws c.as_slice-2.result.now)) (sym c.in_ok-places.ensures.looked.sectors)
     (record {
       old = c.in_ok-places.ensures.within;
-      new = laid-within (S.sector_count c.args.store.now) c.args.sets.now.blocks places last.held last.mapped target laid c.requires.spare c.in_ok-places.ensures.within;
-      touched = λ k lt given. laid-body (λ a. a ≢ 0) c.args.sets.now.blocks places last.held last.mapped target laid some (λ q nz. nz) (λ nz. nz) k lt
+      new = laid-within (S.sector_count c.args.store.now) c.args.sets.now.blocks places last.held last.mapped target laid late.long spare c.in_ok-places.ensures.within;
+      touched = λ k lt given. laid-held (S.sector_count c.args.store.now) c.args.sets.now.blocks places last.held last.mapped target laid late.long spare k lt
           (subst (λ (x : Draft). holds x.held k ≡ true) (sym c.decide-replies.ensures.draft)
           (touched-held 138 refl c.args.found.now.read_only c.first_draft-draft.result ws c.args.now first.held.long k lt (ap (λ l. list_any (touches k) (kept_of ws l)) (sym replies) ∙ given)));
-      map = λ k ge lt differs. laid-single (λ a. a ≢ 0) c.args.sets.now.blocks places last.held last.mapped target laid some (λ q nz. nz) (λ nz. nz)
+      map = λ k ge lt differs. laid-mapped (S.sector_count c.args.store.now) c.args.sets.now.blocks places last.held last.mapped target laid late.long spare
           (subst (λ (x : Draft). ((q : ℕ) → 10 ≤ q → q < 138 → holds x.held q ≡ true → x.mapped ≡ true)) (sym c.decide-replies.ensures.draft) high k ge lt (changed-held c.args.sets.now.blocks places last.held last.mapped target laid k differs));
       size = late.size (subst (λ a. a ≤ size_limit) (sym (size_of_first first.attr)) c.requires.found.0);
       inode = c.requires.found.1;
@@ -81,7 +84,7 @@ returns-clause-planned g c = λ tells strong are is.
     let image : Image = S.image c.args.store.now in
     let whole : IsImage image = whole_image S.sector_count g.met.S.Stable.clocked g.met.S.Stable.shape c.args.store.now tells in
     let long : length image ≡ S.sector_count c.args.store.now = (as_long S.sector_count g.met.S.Stable.clocked g.met.S.Stable.shape c.args.store.now tells).size in
-    let first = subst (λ n. IsFirst c.args.file.ino c.args.found.now.inode c.in_ok-places.places n c.first_draft-draft.result) c.count.ensures c.first_draft-draft.ensures in
+    let first = subst (λ n. IsFirst c.args.file.ino c.args.found.now.inode c.in_ok-places.places n c.first_draft-draft.result) (c.spare_blocks-free.ensures.all (subst (λ (n : ℕ). AreSpare n c.args.sets.now.blocks) (sym (c.sectors.ensures ∙ c.in_ok-places.ensures.looked.sectors)) (spare-of image (S.sector_count c.args.store.now) c.args.sets.now.blocks c.args.sets.now.inodes strong long are))) c.first_draft-draft.ensures in
     let some : list_any (λ r. not (is_refused r)) c.decide-replies.result.items ≡ true = ap (list_any (λ r. not (is_refused r))) (sym c.as_slice.ensures.value) ∙ sym c.any_accepted.ensures ∙ c.if-not-any_accepted.false in
     batch-done image strong whole c.args.file c.args.found.now is c.in_ok-places.places (min (S.sector_count c.args.store.now) 1048576) (ap (λ m. min m 1048576) (sym long)) (c.in_ok-places.ensures.places tells)
     c.args.sets.now.blocks c.args.sets.now.inodes are c.first_draft-draft.result first c.args.batch.now c.args.now c.decide-replies.result.items c.decide-replies.ensures.replies
@@ -100,3 +103,11 @@ returns-clause-fits g c =
     let sectors = g.S.Stable.sector_count c.args.store.now in
     draft-answers sectors c.args.found.now.read_only c.first_draft-draft.result c.args.batch.now c.args.now c.add_puts.new.plan c.decide-replies.result.items c.decide-replies.ensures.replies
     (subst (λ (n : ℕ). CanBePut n c.add_puts.new.plan) c.in_ok-places.ensures.looked.sectors c.in_ok-add_puts.ensures.fits)
+
+pub lay_out-target-requires-clause-small : goal.lay_out-target-requires-clause-small
+lay_out-target-requires-clause-small g c = λ some a h.
+    let first = c.first_draft-draft.ensures in
+    let late : IsLater 138 c.first_draft-draft.result c.decide-replies.new.draft = subst (IsLater 138 c.first_draft-draft.result) (sym c.decide-replies.ensures.draft)
+    (later 138 refl c.args.found.now.read_only c.first_draft-draft.result c.args.batch.now c.args.now first.held.long) in
+    let e = enough 138 refl c.args.file.ino c.args.found.now.inode c.in_ok-places.places c.spare_blocks-free.result c.first_draft-draft.result c.decide-replies.new.draft first late in
+    let small = (c.spare_blocks-free.ensures.some (omega arith) a h).1 in omega arith

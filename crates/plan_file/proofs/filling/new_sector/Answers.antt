@@ -1,8 +1,7 @@
-use Rattle.std.proofs.Common.{◌≡◌, ◌≢◌, ◌<◌, cond, length, ap, subst, sym, ◌∙◌}
-use Rattle.std.specs.List.{list_any}
+use Rattle.std.proofs.Common.{◌≡◌, ◌<◌, length, ap, subst, sym, ◌∙◌}
 use Rattle.stable.specs.Store.{Image}
 use Rattle.v7_map.proofs.Whole.{as_long, whole_image}
-use Rattle.plan_file.specs.Accepted.{kept_of, spliced_by, covers}
+use Rattle.plan_file.specs.Accepted.{kept_of, spliced_by}
 use Rattle.plan_file.specs.Contents.{old_content}
 use Rattle.plan_file.proofs.Covered.{covered-content}
 use Rattle.plan_file.proofs.filling.new_sector.Goals as goal

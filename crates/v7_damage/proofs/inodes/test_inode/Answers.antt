@@ -1,49 +1,33 @@
-use Rattle.std.proofs.Common.{rules, ◌≡◌, ℕ, [], ◌∷◌, true, false, sym, ap, subst, ◌∙◌}
+use Rattle.std.proofs.Common.{rules, ◌≡◌, ℕ, ◌∷◌, true, false, sym, ap, subst, ◌∙◌}
 use Rattle.std.specs.Option.{option_map}
 use Rattle.v7_map.specs.Damage.{Kind, Length, passes, has_kind, has_length}
 use Rattle.v7_map.specs.Frame.{Head}
 use Rattle.v7_damage.specs.Marks.{AreSeen}
 use Rattle.v7_damage.specs.Tests.{first_failing, kind_of_test, place_tests}
-use Rattle.v7_damage.proofs.Failing.{fails_here, passes_on, none_fails}
-use Rattle.v7_damage.proofs.InodeTests.{tests_used, tests_root, tests_free, root_fails, used_by, free_by, type_by, earlier_next, seen_free}
+use Rattle.v7_damage.proofs.Failing.{fails_here, passes_on}
+use Rattle.v7_damage.proofs.InodeTests.{tests_used, earlier_next}
 use Rattle.v7_damage.proofs.inodes.test_inode.Goals as goal
 
-pub returns-then-ino-eq-ROOT-clause-tested : goal.returns-then-ino-eq-ROOT-clause-tested
-returns-then-ino-eq-ROOT-clause-tested c = λ f has was.
-    let i : ℕ = c.args.ino in
-    let root : i ≡ 2 = c.if-ino-eq-ROOT.true in
-    ap (option_map kind_of_test) (sym (ap (first_failing f) (tests_root f i (free_by f i c.args.inode.now has.head c.if-inode-eq0.true) root)
-    ∙ fails_here f (Kind i) [] (root_fails f i root (type_by f i c.args.inode.now has.head c.if-inode-eq0.true))))
-
-pub returns-else-ino-eq-ROOT-clause-tested : goal.returns-else-ino-eq-ROOT-clause-tested
-returns-else-ino-eq-ROOT-clause-tested c = λ f has was.
-    let i : ℕ = c.args.ino in
-    ap (option_map kind_of_test) (sym (ap (first_failing f) (tests_free f i (free_by f i c.args.inode.now has.head c.if-inode-eq0.true) c.if-ino-eq-ROOT.false) ∙ none_fails f))
-
-pub returns-else-ino-eq-ROOT-clause-seen : goal.returns-else-ino-eq-ROOT-clause-seen
-returns-else-ino-eq-ROOT-clause-seen c = λ f has was none.
-    subst (AreSeen c.args.seen.now) (sym (earlier_next f c.args.ino c.requires.number)) (seen_free f c.args.ino c.args.seen.now (λ k. has.none k c.if-inode-eq0.true) 140 was)
-
 pub returns-then-not-has_kind-clause-tested : goal.returns-then-not-has_kind-clause-tested
-returns-then-not-has_kind-clause-tested c = λ f has was.
+returns-then-not-has_kind-clause-tested c = λ f has used was.
     let i : ℕ = c.args.ino in
     let no : passes f (Kind i) ≡ false = ap (λ (h : Head). has_kind i h) has.head ∙ sym c.has_kind.ensures ∙ search rules in
-    ap (option_map kind_of_test) (sym (ap (first_failing f) (tests_used f i (used_by f i c.args.inode.now has.head c.if-inode-eq0.false)) ∙ fails_here f (Kind i) (Length i ∷ place_tests i 0 140) no))
+    ap (option_map kind_of_test) (sym (ap (first_failing f) (tests_used f i used) ∙ fails_here f (Kind i) (Length i ∷ place_tests i 0 140) no))
 
 pub returns-then-not-has_length-clause-tested : goal.returns-then-not-has_length-clause-tested
-returns-then-not-has_length-clause-tested c = λ f has was.
+returns-then-not-has_length-clause-tested c = λ f has used was.
     let i : ℕ = c.args.ino in
     let yes : passes f (Kind i) ≡ true = ap (λ (h : Head). has_kind i h) has.head ∙ sym c.has_kind.ensures ∙ search rules in
     let no : passes f (Length i) ≡ false = ap (λ (h : Head). has_length h) has.head ∙ sym c.has_length.ensures ∙ search rules in
-    ap (option_map kind_of_test) (sym (ap (first_failing f) (tests_used f i (used_by f i c.args.inode.now has.head c.if-inode-eq0.false)) ∙ passes_on f (Kind i) (Length i ∷ place_tests i 0 140) yes ∙ fails_here f (Length i) (place_tests i 0 140) no))
+    ap (option_map kind_of_test) (sym (ap (first_failing f) (tests_used f i used) ∙ passes_on f (Kind i) (Length i ∷ place_tests i 0 140) yes ∙ fails_here f (Length i) (place_tests i 0 140) no))
 
 pub returns-clause-tested : goal.returns-clause-tested
-returns-clause-tested c = λ f has was.
+returns-clause-tested c = λ f has used was.
     let i : ℕ = c.args.ino in
     let yes : passes f (Kind i) ≡ true = ap (λ (h : Head). has_kind i h) has.head ∙ sym c.has_kind.ensures ∙ search rules in
     let long : passes f (Length i) ≡ true = ap (λ (h : Head). has_length h) has.head ∙ sym c.has_length.ensures ∙ search rules in
     c.test_places.ensures.tested f i has was
-    ∙ ap (option_map kind_of_test) (sym (ap (first_failing f) (tests_used f i (used_by f i c.args.inode.now has.head c.if-inode-eq0.false)) ∙ passes_on f (Kind i) (Length i ∷ place_tests i 0 140) yes ∙ passes_on f (Length i) (place_tests i 0 140) long))
+    ∙ ap (option_map kind_of_test) (sym (ap (first_failing f) (tests_used f i used) ∙ passes_on f (Kind i) (Length i ∷ place_tests i 0 140) yes ∙ passes_on f (Length i) (place_tests i 0 140) long))
 
 pub returns-clause-seen : goal.returns-clause-seen
 returns-clause-seen c = λ f has was none.

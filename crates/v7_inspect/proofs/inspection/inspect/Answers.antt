@@ -1,4 +1,4 @@
-use Rattle.std.proofs.Common.{◌≡◌, sym, subst}
+use Rattle.std.proofs.Common.{sym, subst}
 use Rattle.stable.specs.Store.{Image}
 use Rattle.v7_damage.specs.Undamaged.{IsUndamaged}
 use Rattle.v7_inspect.specs.Judged.{IsJudged}

@@ -1,9 +1,8 @@
-use Rattle.std.proofs.Common.{rules, ◌∙◌, List, Bool, refl, sym, ap}
+use Rattle.std.proofs.Common.{◌∙◌, List, Bool, refl, sym, ap}
 use Rattle.index_sets.specs.Free.{is_free}
 use Rattle.stable.specs.Store.{Image}
 use Rattle.v7_damage.proofs.Supers.{numbers_read}
 use Rattle.v7_repair.specs.Free.{is_left}
-use Rattle.v7_repair.proofs.Giving.{left_above}
 use Rattle.v7_repair.proofs.free.find_free.Goals as goal
 
 pub returns-clause-left : goal.returns-clause-left
@@ -14,13 +13,4 @@ returns-clause-left g c = λ tells is.
     record {
       blocks = λ b. ap (λ (x : List Bool). is_free x b) c.in_ok-give_numbers.ensures.blocks ∙ c.give_blocks.ensures.blocks b ∙ sym (ap (λ n. is_left n c.args.needed.now b) starts);
       inodes = c.in_ok-give_numbers.ensures.numbers tells is;
-    }
-
-pub returns-clause-room : goal.returns-clause-room
-returns-clause-room g c =
-    let isize = c.args.known.now.super_block.s_isize in
-    record {
-      blocks = search rules;
-      inodes = search rules;
-      past = λ b free. left_above isize c.args.needed.now b (sym (c.give_blocks.ensures.blocks b) ∙ sym (ap (λ (x : List Bool). is_free x b) c.in_ok-give_numbers.ensures.blocks) ∙ free);
     }

@@ -10,7 +10,7 @@ use Rattle.v7_mend.specs.Repairs.{CanMend, IsMended}
 use Rattle.v7_repair.specs.Free.{AreLeft}
 use Rattle.v7_sets.specs.declared.sets.Sets.{Sets}
 use Rattle.v7_repair.proofs.Looks.{run_looked, run_failed, run_done, kept_by}
-use Rattle.v7_repair.proofs.Mends.{can_mend, few_puts, fits_store, spare_blocks, is_repaired}
+use Rattle.v7_repair.proofs.Mends.{can_mend, few_puts, fits_store, is_repaired}
 use Rattle.v7_repair.proofs.repairing.repair.Goals as goal
 
 pub returns-in-Err-clause-run : goal.returns-in-Err-clause-run
@@ -81,9 +81,6 @@ returns-clause-leaves g c = λ tells.
 
 pub returns-clause-fits : goal.returns-clause-fits
 returns-clause-fits g c = fits_store c.in-Ok.known (g.S.Stable.sector_count c.args.store.now) c.in-Ok.ensures.tables c.in-Ok-find_free.sets c.in-Ok-find_free.ensures.room
-
-pub returns-clause-spare : goal.returns-clause-spare
-returns-clause-spare g c = spare_blocks c.in-Ok.known (g.S.Stable.sector_count c.args.store.now) c.in-Ok.ensures.tables c.in-Ok-find_free.sets c.in-Ok-find_free.ensures.room
 
 pub returns-clause-run : goal.returns-clause-run
 returns-clause-run g c =

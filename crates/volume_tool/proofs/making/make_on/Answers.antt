@@ -9,8 +9,7 @@ pub returns-in-Ok : goal.returns-in-Ok
 returns-in-Ok g c =
     let r = g.R.Rig in
     let law = g.met.R.Rig in
-    let plan = plan_read c.args.plan.now in
-    let made = c.make-made.ensures in
-    subst (λ back. MakesOn r plan c.args.rig back c.make-made.result) (sym c.into_rig.ensures.rig)
-    (makes_on r law.clocked law.kept_told plan c.requires.ready c.requires.buffers c.requires.fits c.in-Ok.unit c.make-made.new.store c.in-Ok.ensures.rig c.in-Ok.ensures.down made.crash.later made.opens _ made.snapshot
-    (λ tells down. subst (λ back. NoEntry (r.contents back)) c.into_rig.ensures.rig (c.into_rig.ensures.bare tells down)) c.make-made.result made.answered made.made)
+    let made = c.make_unit-made.result in
+    subst (λ back. MakesOn r (plan_read c.args.plan.now) c.args.rig back made.0) (sym c.into_rig.ensures.rig)
+    (makes_on r law.clocked law.kept_told (plan_read c.args.plan.now) c.requires.ready c.requires.buffers c.in-Ok.unit made.1 c.in-Ok.ensures.rig c.in-Ok.ensures.down
+    (λ tells down. subst (λ back. NoEntry (r.contents back)) c.into_rig.ensures.rig (c.into_rig.ensures.bare tells down)) made.0 c.make_unit-made.ensures)

@@ -1,0 +1,12 @@
+pub mod Slots
+pub mod Entries
+pub mod Inodes
+pub mod NewNodes
+pub mod Targets
+pub mod Merged
+pub mod Freed
+pub mod Over
+pub mod Changes
+pub mod Left
+pub mod FreeSets
+pub mod Last
