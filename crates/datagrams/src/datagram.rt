@@ -63,7 +63,7 @@ fn is_known(call: &Call) -> bool
 {
     matches!(
         call,
-        Call::Getattr { .. } | Call::Read { .. } | Call::Write { .. }
+        Call::Getattr { .. } | Call::Setattr { .. } | Call::Read { .. } | Call::Write { .. }
     )
 }
 
