@@ -14,9 +14,7 @@ use nfs2_wire::{NfsCall, read_arguments, stale_reply};
 use presto_rpc::{Control, read_control, write_answer};
 use stable::Command;
 use std::alloc::Global;
-use xdr_rpc::{
-    RpcCall, RpcRead, ShortReply, garbage_reply, read_rpc, too_weak_reply, void_reply,
-};
+use xdr_rpc::{RpcCall, RpcRead, ShortReply, garbage_reply, read_rpc, too_weak_reply, void_reply};
 
 /// The programs of NFS and of MOUNT (RFC 1094 2.1 and appendix A.3).
 const NFS_PROGRAM: u32 = 100003;
@@ -49,9 +47,14 @@ pub enum Datagram {
         command: Command,
     },
     /// The status of the store of a volume is asked for.
-    Status { xid: u32, volume: u32 },
+    Status {
+        xid: u32,
+        volume: u32,
+    },
     /// The server is to end, by user 0.
-    Halt { xid: u32 },
+    Halt {
+        xid: u32,
+    },
 }
 
 // Whether the step has a row for it.
@@ -60,7 +63,7 @@ fn is_known(call: &Call) -> bool
 {
     matches!(
         call,
-        Call::Getattr { .. } | Call::Read { .. } | Call::Write { .. }
+        Call::Getattr { .. } | Call::Setattr { .. } | Call::Read { .. } | Call::Write { .. }
     )
 }
 

@@ -81,7 +81,10 @@ fn is_found(datagram: &Datagram, wanted: Found) -> bool {
 fn what_datagrams_mean(rt: HostRuntime) -> Result<(), Fail> {
     for (at, word, len, wanted) in CASES {
         let datagram = read_changed(rt.alloc(), at, word, len)?;
-        assert!(rt; is_found(&datagram, wanted), "word {at} is {word}, {len} bytes");
+        assert!(rt;
+            is_found(&datagram, wanted),
+            "word {at} is {word}, {len} bytes"
+        );
     }
     Ok(())
 }
@@ -97,7 +100,10 @@ fn is_worked_write(datagram: &Datagram) -> bool {
                 offset: 511,
                 bytes,
             },
-        } => cred.uid == 100 && cred.gid == 100 && is_file(*file) && bytes.bytes() == b"XY".as_slice(),
+        } => cred.uid == 100
+            && cred.gid == 100
+            && is_file(*file)
+            && bytes.bytes() == b"XY".as_slice(),
         _ => false,
     }
 }

@@ -70,7 +70,12 @@ fn what_is_refused_has_its_reply(rt: HostRuntime) -> Result<(), Fail> {
     let (status, host, whole) = talked(rt.alloc(), &REFUSALS)?;
     assert_eq!(rt; status, 0);
     assert!(rt; whole);
-    assert!(rt; has_said(&host, &[OPENED, STOPPED, "received 12 answered 10 dropped 2"]));
+    assert!(rt;
+        has_said(
+            &host,
+            &[OPENED, STOPPED, "received 12 answered 10 dropped 2"]
+        )
+    );
     Ok(())
 }
 
@@ -114,7 +119,10 @@ const SESSION: [Row; 7] = [
         ],
         &[7, 1, 0, 0, 0, 0],
     ),
-    (&[7, 0, 2, 0x186a5, 1, 2, 0, 0, 0, 0], &[7, 1, 0, 0, 0, 0, 0]),
+    (
+        &[7, 0, 2, 0x186a5, 1, 2, 0, 0, 0, 0],
+        &[7, 1, 0, 0, 0, 0, 0],
+    ),
 ];
 
 #[test]
@@ -135,29 +143,20 @@ const CONTROLS: [Row; 8] = [
         &[9, 1, 0, 0, 0, 0, 4, 0],
     ),
     (
-        &[
-            9, 0, 2, 0x20001094, 1, 1, 1, 20, 0, 0, 0, 0, 0, 0, 0, 1,
-        ],
+        &[9, 0, 2, 0x20001094, 1, 1, 1, 20, 0, 0, 0, 0, 0, 0, 0, 1],
         &[9, 1, 0, 0, 0, 0, 4, 0],
     ),
     (
-        &[
-            9, 0, 2, 0x20001094, 1, 1, 1, 20, 0, 0, 100, 0, 0, 0, 0, 0,
-        ],
+        &[9, 0, 2, 0x20001094, 1, 1, 1, 20, 0, 0, 100, 0, 0, 0, 0, 0],
         &[9, 1, 1, 1, 5],
     ),
-    (
-        &[9, 0, 2, 0x20001094, 1, 6, 0, 0, 0, 0],
-        &[9, 1, 1, 1, 5],
-    ),
+    (&[9, 0, 2, 0x20001094, 1, 6, 0, 0, 0, 0], &[9, 1, 1, 1, 5]),
     (
         &[9, 0, 2, 0x20001094, 1, 1, 1, 20, 0, 0, 0, 0, 0, 0, 0],
         &[9, 1, 0, 0, 0, 4],
     ),
     (
-        &[
-            9, 0, 2, 0x20001094, 1, 1, 1, 20, 0, 0, 0, 0, 0, 0, 0, 0,
-        ],
+        &[9, 0, 2, 0x20001094, 1, 1, 1, 20, 0, 0, 0, 0, 0, 0, 0, 0],
         &[9, 1, 0, 0, 0, 0, 2, 0],
     ),
     (HALT, &[9, 1, 0, 0, 0, 0, 0, 0]),
@@ -227,8 +226,13 @@ fn a_status_shows_what_the_idle_turns_flushed(rt: HostRuntime) -> Result<(), Fai
     let alloc = rt.alloc();
     let mut rig = small(alloc)?;
     rig.low_from(2);
-    let (status, host, whole) =
-        after_a_write(alloc, rig, 3, STATUS, &[9, 1, 0, 0, 0, 0, 0, 4, 0, 0, 0, 3])?;
+    let (status, host, whole) = after_a_write(
+        alloc,
+        rig,
+        3,
+        STATUS,
+        &[9, 1, 0, 0, 0, 0, 0, 4, 0, 0, 0, 3],
+    )?;
     assert_eq!(rt; status, 0);
     assert!(rt; whole);
     assert!(rt; has_said(&host, &[STARTED, STOPPED, TWO]));
@@ -255,8 +259,7 @@ fn down_flushes_what_is_dirty(rt: HostRuntime) -> Result<(), Fail> {
     let alloc = rt.alloc();
     let mut rig = small(alloc)?;
     rig.low_from(2);
-    let (status, host, whole) =
-        after_a_write(alloc, rig, 0, DOWN, &[9, 1, 0, 0, 0, 0, 0, 0])?;
+    let (status, host, whole) = after_a_write(alloc, rig, 0, DOWN, &[9, 1, 0, 0, 0, 0, 0, 0])?;
     assert_eq!(rt; status, 0);
     assert!(rt; whole);
     assert!(rt; has_said(&host, &[STARTED, STOPPED, TWO]));
@@ -268,8 +271,7 @@ fn down_tells_what_it_left(rt: HostRuntime) -> Result<(), Fail> {
     let alloc = rt.alloc();
     let mut rig = small(alloc)?;
     rig.break_sector(2)?;
-    let (status, _, whole) =
-        after_a_write(alloc, rig, 0, DOWN, &[9, 1, 0, 0, 0, 0, 1, 1])?;
+    let (status, _, whole) = after_a_write(alloc, rig, 0, DOWN, &[9, 1, 0, 0, 0, 0, 1, 1])?;
     assert_eq!(rt; status, 74);
     assert!(rt; whole);
     Ok(())

@@ -116,7 +116,7 @@ returns-in-Ok-post g c =
     let started = c.start.ensures.started in
     let told = c.tell_start.ensures in
     let ran = subst (λ (v : Volume g.row.S.Denot). ServedPost g.H.Host g.H.Say g.H.L.Link g.H.C.Clock s c.args.options.turns (is_hurt v) c.post.new.self c.serve_post.new.host (store_of v) c.serve_post.result.1 c.in-Ok.cells.desk c.in-Ok-post.post c.serve_post.result.0)
-        c.in-Ok.ensures.volume c.serve_post.ensures.served in
+    c.in-Ok.ensures.volume c.serve_post.ensures.served in
     let desk = ran.began ∙ c.in-Ok.ensures.desk in
     let gives = c.in-Ok-post.ensures.gives in
     let shown = c.snapshot.ensures in
