@@ -179,10 +179,11 @@ setattr-plan image file set' cred now n first v b strong whole is none quiet sto
     let body : IsBody n.size n.sectors = view-IsBody image file.ino n whole strong.weak (live-node (view image) file n is) in
     let strong' : IsStrong (frame (put_all first image)) = subst IsStrong (sym f) strong in
     let is' : live (view (put_all first image)) file ≡ Some n = ap (λ (x : Files). live x file) w ∙ is in
-    let none' : setattr_refusal (view (put_all first image)).read_only (attr_of file.ino n) set' cred ≡ None = ap (λ (x : Files). setattr_refusal x.read_only (attr_of file.ino n) set' cred) w ∙ none in
-    (quiet-plan image ((Setattr file set', cred) ∷ []) now first ((inode_sector file.ino, b) ∷ []) quiet strong.weak
-    (set-one (put_all first image) strong' file set' cred now n is' body none' v b stores keeps cut clean puts),
-    set-blocks (put_all first image) strong' file set' cred now n is' body none' v b stores keeps cut clean puts)
+    let none' : setattr_refusal (view (put_all first image)).read_only (attr_of file.ino n) set' cred ≡ None = ap (λ (x : Files). setattr_refusal x.read_only (attr_of file.ino n) set' cred) w ∙ none in (
+      quiet-plan image ((Setattr file set', cred) ∷ []) now first ((inode_sector file.ino, b) ∷ []) quiet strong.weak
+          (set-one (put_all first image) strong' file set' cred now n is' body none' v b stores keeps cut clean puts),
+      set-blocks (put_all first image) strong' file set' cred now n is' body none' v b stores keeps cut clean puts,
+    )
 
 -- ---- a file that gets shorter
 
