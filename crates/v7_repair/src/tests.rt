@@ -260,7 +260,7 @@ impl Stable for Counting {
 }
 
 /// A file of eleven sectors, the last by the block of addresses 7, which has an address past the size too; its stored count is 5. In the next sector
-/// an inode that nothing names.
+/// an inode that nothing names, so that it is passed over where the named ones are judged.
 #[test]
 fn no_sector_is_read_often(rt: HostRuntime) -> Result<(), Fail> {
     let patches = [
@@ -281,7 +281,7 @@ fn no_sector_is_read_often(rt: HostRuntime) -> Result<(), Fail> {
     let mut most = [0; 64];
     most[1] = 1;
     most[2] = 5;
-    most[3] = 5;
+    most[3] = 4;
     most[4] = 2;
     most[7] = 4;
     assert!(rt; counting.reads == most);
