@@ -5,24 +5,28 @@ use crate::tests::outside::{cells, datagram, post};
 use crate::tests::volumes::{is_volume, rig};
 use crate::tests::worked::{CLIENT, worked_write, write_with};
 use nfs_worker::taking::turn;
-use nfs_worker::{Cells, DropCause, ServerPass, Turn};
+use nfs_worker::{Cells, Desk, DropCause, ServerPass, Turn};
 use presto_unit::Presto;
 use rig::{Address, Event, Failed, Link, Packet, Post};
-use rig_mem::{MemClock, MemEvent, MemLink, MemRig, StillPauser};
+use rig_mem::{MemClock, MemEvent, MemRig, StillPauser};
 use stable::Stable;
 use std::test::Fail;
 use volume_mem::{FRESH, WRITTEN};
 
-// Takes a turn. Whether it is this one.
-fn is_next(
+/// Takes a turn with a new desk. Whether it is this one.
+pub fn is_next<L: Link>(
     cells: &mut Cells<Presto<MemRig>>,
-    post: &mut Post<MemLink, MemClock, StillPauser>,
+    post: &mut Post<L, MemClock, StillPauser>,
     pass: &mut ServerPass,
     wanted: Turn,
 ) -> bool
     requires { Rests ⟦<Presto<MemRig> as Stable>⟧ cells.old.volume }
     ensures { Rests ⟦<Presto<MemRig> as Stable>⟧ cells.new.volume }
 {
+    let Ok(desk) = Desk::new(cells.alloc, cells.volume.root(), 0) else {
+        return false;
+    };
+    cells.desk = desk;
     pass.numbers.received < 6 && turn(cells, post, pass) == wanted
 }
 
@@ -98,10 +102,8 @@ fn what_is_not_sent_is_done(rt: HostRuntime) -> Result<(), Fail> {
     let Some(mut cells) = cells(alloc, rig(alloc, FRESH)?) else {
         panic!(rt; "the volume wasn't opened");
     };
-    assert_eq!(rt;
-        turn(&mut cells, &mut post, &mut pass),
-        Turn::Dropped(DropCause::SendFailed)
-    );
+    let unsent = Turn::Dropped(DropCause::SendFailed);
+    assert!(rt; is_next(&mut cells, &mut post, &mut pass, unsent));
     assert_eq!(rt;
         (
             pass.numbers.received,
