@@ -1,6 +1,11 @@
 pub mod Files
 pub mod Permission
 pub mod Space
+pub mod Answers
+pub mod FileRows
+pub mod Names
+pub mod NameRows
+pub mod ReadingRows
 pub mod Step
 pub mod Torn
 pub mod History
