@@ -28,6 +28,16 @@ impl Plan {
     /// The most sectors that a plan has room for.
     pub const MOST: usize = 420;
 
+    /// A plan of nothing, which has room for nothing. It takes no memory.
+    pub fn empty(alloc: Global) -> Plan
+        ensures { result ≡ record { puts = []; room = 0 } }
+    {
+        Plan {
+            puts: Vec::new(alloc),
+            room: 0,
+        }
+    }
+
     /// A plan of nothing, with room for so many sectors.
     pub fn new(alloc: Global, room: usize) -> Result<Plan, NoMemory>
         requires { room ≤ 420 }

@@ -33,6 +33,7 @@ fn is_filled(plan: &Plan, room: usize) -> bool {
 fn a_plan_takes_as_many_sectors_as_it_has_room_for_and_again_after_it_was_cleared(
     rt: HostRuntime,
 ) -> Result<(), Fail> {
+    assert!(rt; is_filled(&Plan::empty(rt.alloc()), 0));
     for room in [0, 1, 3, 27, Plan::MOST] {
         let mut plan = Plan::new(rt.alloc(), room).map_err(|_| "memory")?;
         assert!(rt; plan.puts().is_empty());
