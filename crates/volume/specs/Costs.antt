@@ -6,19 +6,20 @@ use Rattle.files_model.specs.declared.credential.Cred.{Cred}
 use Rattle.files_model.specs.Batch.{cost}
 use Rattle.files_model.specs.Files.{Files}
 use Rattle.plan_file.specs.Planned.{plan_puts}
+use Rattle.plan_file.specs.Set.{set_puts}
 use Rattle.stable.specs.States.{SomePuts}
 use Rattle.stable.specs.declared.store.Stable.{Ghosts}
 use Rattle.volume.specs.Mends.{mend_puts}
 
 -- how many sectors a call puts at most, whatever the files
 abbrev pub most_puts : Call → ℕ
-most_puts (call.Setattr file set) = plan_puts
+most_puts (call.Setattr file set) = set_puts set
 most_puts (call.Write file offset bytes) = plan_puts
 most_puts c = 0
 
 -- how many it may put on these files
 abbrev pub call_cost : Files → Call → Cred → ℕ → ℕ
-call_cost files (call.Setattr file set) cred now = plan_puts
+call_cost files (call.Setattr file set) cred now = set_puts set
 call_cost files (call.Write file offset bytes) cred now = cost files file (record { cred = cred; offset = offset; bytes = bytes } ∷ []) now
 call_cost files c cred now = 0
 

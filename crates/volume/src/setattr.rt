@@ -1,7 +1,7 @@
 // SETATTR (RFC 1094 2.2.3).
 ghost use Rattle.std.specs.Prelude.{◌≡◌, false};
 ghost use Rattle.files_model.specs.declared.call.Call.TheVariants.{Setattr};
-ghost use Rattle.plan_file.specs.Planned.{plan_puts};
+ghost use Rattle.plan_file.specs.Set.{set_puts};
 ghost use Rattle.stable.specs.Store.{StaysOpenable};
 ghost use Rattle.volume.specs.Applied.{Applies, hurts};
 ghost use Rattle.volume.specs.Costs.{CostsAtMost};
@@ -30,7 +30,7 @@ pub fn setattr<S: Stable>(
     ensures applied { Applies S.Stable store.old store.new false (hurts (Setattr file wanted.now) result) (Setattr file wanted.now) cred.now now result }
     ensures opens { StaysOpenable S.opens_since S.moment store.old store.new }
     ensures sectors { S.sector_count store.new ≡ S.sector_count store.old }
-    ensures snapshot { CostsAtMost S.Stable store.old store.new false plan_puts plan_puts }
+    ensures snapshot { CostsAtMost S.Stable store.old store.new false (set_puts wanted.now) (set_puts wanted.now) }
 {
     let PlannedSet { plan, reply, freed } = match plan_setattr(
         alloc, store, file, wanted, cred, now,

@@ -28,12 +28,12 @@ returns-in-Ok-run_plan-clause-committed g c =
     record {
       leaves = λ told.
           let planned = made.planned told (rest.strong told refl) (rest.are_sets told refl) in
-          (planned.answered, (λ z. view (put_planned c.in-Ok.planned.plan image (S.image c.plan_writes.new.store) (S.image c.run_plan.new.store) made.looked.image (c.in-Ok-run_plan.ensures.done told) z)) ∙ planned.plan.after);
+          (planned.answered, (λ z. view (put_planned c.in-Ok.planned.plan.puts image (S.image c.plan_writes.new.store) (S.image c.run_plan.new.store) made.looked.image (c.in-Ok-run_plan.ensures.done told) z)) ∙ planned.plan.after);
       hurts = refl;
       replies = (made.fits.count_is, made.fits.forms);
       cause = search rules;
       crash = weaker
-          (crash_planned S clocked (calls_of c.args.file c.args.batch.now) c.args.now c.args.store.now c.plan_writes.new.store c.run_plan.new.store c.in-Ok.planned.plan rest.weak made.looked made.fits.plan.past
+          (crash_planned S clocked (calls_of c.args.file c.args.batch.now) c.args.now c.args.store.now c.plan_writes.new.store c.run_plan.new.store c.in-Ok.planned.plan.puts rest.weak made.looked made.fits.plan.past
           (λ told. (made.planned told (rest.strong told refl) (rest.are_sets told refl)).plan) c.in-Ok-run_plan.ensures.crash)
           (λ d left moment. record { files = moment.0; name = moment.1 });
     }
@@ -51,7 +51,7 @@ returns-clause-rest g c =
     let rest = c.requires.rest in
     let made = c.in-Ok.ensures in
     rest_torn S.tells (S.image c.args.store.now) (S.image c.plan_writes.new.store) (S.image c.run_plan.new.store) (S.sector_count c.args.store.now) (S.sector_count c.run_plan.new.store)
-    c.args.sets.now c.plan_writes.new.sets (calls_of c.args.file c.args.batch.now) c.args.now c.in-Ok.planned.plan made.looked.image (c.in-Err.ensures.sectors ∙ made.looked.sectors) made.takes rest
+    c.args.sets.now c.plan_writes.new.sets (calls_of c.args.file c.args.batch.now) c.args.now c.in-Ok.planned.plan.puts made.looked.image (c.in-Err.ensures.sectors ∙ made.looked.sectors) made.takes rest
     (λ told. (made.planned told (rest.strong told refl) (rest.are_sets told refl)).plan) (ends g.met.S.Stable.clocked c.in-Err.ensures.crash)
 
 pub returns-clause-committed : goal.returns-clause-committed
@@ -61,7 +61,7 @@ returns-clause-committed g c =
     let rest = c.requires.rest in
     let made = c.in-Ok.ensures in
     let crash =
-    crash_planned S clocked (calls_of c.args.file c.args.batch.now) c.args.now c.args.store.now c.plan_writes.new.store c.run_plan.new.store c.in-Ok.planned.plan rest.weak made.looked made.fits.plan.past
+    crash_planned S clocked (calls_of c.args.file c.args.batch.now) c.args.now c.args.store.now c.plan_writes.new.store c.run_plan.new.store c.in-Ok.planned.plan.puts rest.weak made.looked made.fits.plan.past
     (λ told. (made.planned told (rest.strong told refl) (rest.are_sets told refl)).plan) c.in-Err.ensures.crash in
     record {
       leaves = λ told. (ends clocked crash told).0.torn;
