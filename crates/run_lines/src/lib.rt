@@ -13,7 +13,7 @@ pub use numbers::read_number;
 pub use refusing::{
     Refusal, damaged, device_failed, host_refusal, no_memory, unit_refusal, volume_refusal,
 };
-pub use telling::{refuse, tell};
+pub use telling::{offer, print, refuse, tell};
 
 #[cfg(test)]
 mod tests;
