@@ -9,7 +9,7 @@ mod running;
 mod waiting;
 mod words;
 
-pub use running::{USAGE, control};
+pub use running::{LINK_FAILED, USAGE, control};
 
 #[cfg(test)]
 mod tests;

@@ -13,6 +13,9 @@ use run_lines::{offer, print};
 /// What is said where the words aren't of the grammar.
 pub const USAGE: &str = "usage: prestoctl ADDRESS up|down|flush|reset|status|halt [V]";
 
+/// What is said where the link failed.
+pub const LINK_FAILED: &str = "link failed";
+
 // Says how the call ended, and answers the status.
 fn close<O: Say>(ending: Ending, out: &mut O) -> u8
     ensures closes { Closes O.Say ending out.old out.new result }
@@ -25,7 +28,7 @@ fn close<O: Say>(ending: Ending, out: &mut O) -> u8
         }
         Ending::Silent => print(out, "no answer", 3),
         Ending::Broken => {
-            offer(out, "link failed");
+            offer(out, LINK_FAILED);
             66
         }
     }
