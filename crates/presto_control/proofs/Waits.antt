@@ -1,19 +1,16 @@
 -- How a wait goes on and how it ends.
-use Rattle.std.proofs.Common.{arith, ◌≡◌, ◌∙◌, ◌≤◌, ◌<◌, ◌+◌, ℕ, Bool, true, false, cond, List, [], ◌∷◌, ◌++◌, length, Option, Some, None, refl, sym, ap, subst, length-append, append_assoc}
-use Rattle.std.specs.List.{count_by, sum_by}
+use Rattle.std.proofs.Common.{arith, ◌≡◌, ◌∙◌, ◌≤◌, ◌<◌, ◌+◌, ℕ, Bool, true, false, cond, List, [], ◌∷◌, ◌++◌, length, Option, Some, None, sym, ap, length-append, append_assoc}
+use Rattle.std.specs.List.{count_by}
 use Rattle.std.specs.Option.{option_map}
 use Rattle.std.proofs.lemmas.List.Sums.{sum_by-append}
-use Rattle.stable.specs.Counts.{Rose}
 use Rattle.rig.specs.Links.{Heard, Takes}
-use Rattle.rig.specs.Links.Heard.{Datagram, Idle, Closed, Failed}
+use Rattle.rig.specs.Links.Heard.{Closed}
 use Rattle.rig.specs.declared.link.Link.{Ghosts}
 use Rattle.presto_rpc.specs.declared.control.Control.{Control}
 use Rattle.presto_control.specs.declared.news.News.{News}
 use Rattle.presto_control.specs.declared.news.News.TheVariants as news
-use Rattle.presto_control.specs.declared.waiting.Ending.{Ending}
-use Rattle.presto_control.specs.declared.waiting.Ending.TheVariants as ending
 use Rattle.presto_control.specs.News.{news_of, Hears}
-use Rattle.presto_control.specs.Waiting.{is_idle, is_other, Passed, Ends, Waited}
+use Rattle.presto_control.specs.Waiting.{is_idle, is_other, Passed}
 
 -- So far a wait goes on.
 pub record Waiting {L : Type 0} (l : Ghosts L) (asked : Control) (old now : L) (idles others : ℕ) : Type 0 where

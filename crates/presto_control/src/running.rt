@@ -43,12 +43,7 @@ fn close<O: Say>(ending: Ending, out: &mut O) -> u8
 /// - 74: the line of a run that would be 0, 1 or 3 can't be said. At the other statuses that is passed over.
 ///
 /// It takes no memory.
-pub fn control<L: Link, O: Say>(
-    words: &[String],
-    to: &Address,
-    link: &mut L,
-    out: &mut O,
-) -> u8
+pub fn control<L: Link, O: Say>(words: &[String], to: &Address, link: &mut L, out: &mut O) -> u8
     // The words alone decide on the usage line.
     ensures usage { result ≡ 64 ↔ asked_by (map string_bytes words.now) ≡ None }
     // The datagram that was sent, what was heard until the wait ended, and the status and the line by how it ended.

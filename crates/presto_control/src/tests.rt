@@ -57,12 +57,7 @@ fn link(alloc: Global, idles: u32, others: u32, last: Option<MemEvent>) -> Resul
 }
 
 // Runs by this command line. The status, and whether this line was said and no other.
-fn run(
-    alloc: Global,
-    line: &str,
-    link: &mut MemLink,
-    wanted: &str,
-) -> Result<(u8, bool), Fail> {
+fn run(alloc: Global, line: &str, link: &mut MemLink, wanted: &str) -> Result<(u8, bool), Fail> {
     let mut out = MemSay::new(alloc);
     let status = control(&words(alloc, line)?, &SERVER, link, &mut out);
     let said = match out.lines() {
@@ -140,10 +135,7 @@ fn an_answer_has_its_status_and_line(rt: HostRuntime) -> Result<(), Fail> {
     // Denied, since the caller is too weak.
     let reply = datagram(&[XID, 1, 1, 1, 5, 0, 0, 0, 0, 0, 0, 0]);
     let mut link = link(alloc, 0, 0, Some(reply))?;
-    assert_eq!(rt;
-        run(alloc, "halt", &mut link, "refused")?,
-        (1, true)
-    );
+    assert_eq!(rt; run(alloc, "halt", &mut link, "refused")?, (1, true));
     Ok(())
 }
 
@@ -205,10 +197,7 @@ fn a_link_ends_or_fails(rt: HostRuntime) -> Result<(), Fail> {
         (Some(MemEvent::Failed), 66, "link failed"),
     ] {
         let mut link = link(alloc, 2, 2, last)?;
-        assert_eq!(rt;
-            run(alloc, "down 0", &mut link, wanted)?,
-            (status, true)
-        );
+        assert_eq!(rt; run(alloc, "down 0", &mut link, wanted)?, (status, true));
     }
     Ok(())
 }

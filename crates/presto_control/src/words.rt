@@ -39,10 +39,7 @@ pub fn read_words(words: &[String]) -> Option<Control>
                 None
             }
         }
-        [verb, volume] => on_volume(
-            verb.as_str(),
-            read_number(volume.as_bytes(), LAST_VOLUME)?,
-        ),
+        [verb, volume] => on_volume(verb.as_str(), read_number(volume.as_bytes(), LAST_VOLUME)?),
         _ => None,
     }
 }

@@ -1,4 +1,3 @@
-use Rattle.std.proofs.Common.{sym}
 use Rattle.presto_control.proofs.Waits.{waits_idle, waits_other}
 use Rattle.presto_control.proofs.waiting.wait.Goals as goal
 
