@@ -17,6 +17,7 @@ mod system_clock;
 mod tests;
 mod udp_link;
 
+pub use address::address_of;
 pub use file_rig::FileRig;
 pub use real_host::RealHost;
 pub use sleep_pauser::SleepPauser;

@@ -1,8 +1,9 @@
 -- What was said, and what was lent.
-use Rattle.std.specs.Prelude.{◌≡◌, ℕ, List, ◌++◌}
-use Rattle.std.specs.Prelude.{Option}
+use Rattle.std.specs.Prelude.{◌≡◌, ◌⊎◌, ◌≤◌, ℕ, List, ◌++◌, Option}
 use Rattle.std.specs.Option.{option_map}
+use Rattle.stable.specs.Counts.{Rose}
 use Rattle.rig.specs.Hosts.{SameLoans}
+use Rattle.rig.specs.Links.{gains}
 use Rattle.rig.specs.declared.host.Host.{Ghosts}
 use Rattle.rig.specs.declared.say.Say.{Ghosts as SayGhosts}
 use Rattle.rig.specs.Offers.{Offers}
@@ -11,6 +12,20 @@ use Rattle.rig.specs.Offers.{Offers}
 pub record Said {S : Type 0} (say : SayGhosts S) (old new : S) (wanted : List (List ℕ)) : Type 0 where
   pub said : List (List ℕ)
   pub offers : Offers (say.lines old) (say.lines new) (say.say_faults old) (say.say_faults new) wanted said
+
+-- the line was said
+pub record IsSaid {S : Type 0} (say : SayGhosts S) (old new : S) (line : List ℕ) : Type 0 where
+  pub gained : say.lines new ≡ gains (say.lines old) line
+  pub later : say.say_faults old ≤ say.say_faults new
+
+-- it could not be said
+pub record IsUnsaid {S : Type 0} (say : SayGhosts S) (old new : S) : Type 0 where
+  pub same : say.lines new ≡ say.lines old
+  pub failed : Rose (say.say_faults old) (say.say_faults new)
+
+-- the line of a run that came to its end: the status is this one where it was said, and else 74
+abbrev pub Prints : {S : Type 0} → SayGhosts S → ℕ → List ℕ → S → S → ℕ → Type 0
+Prints say status line old new result = ((result ≡ status) × IsSaid say old new line) ⊎ ((result ≡ 74) × IsUnsaid say old new)
 
 -- The host gave and took back nothing, and none of its calls failed.
 pub record SameHost {S R L C P : Type 0} (h : Ghosts S R L C P) (old new : S) : Type 0 where

@@ -1,29 +1,13 @@
 -- What a run of the tool says, and how that decides on its status.
-use Rattle.std.specs.Prelude.{◌≡◌, ◌⊎◌, ◌≤◌, ℕ, zero, suc, List, [], ◌∷◌}
-use Rattle.stable.specs.Counts.{Rose}
-use Rattle.rig.specs.Links.{gains}
+use Rattle.std.specs.Prelude.{◌≡◌, ℕ, zero, suc, List, [], ◌∷◌}
 use Rattle.rig.specs.declared.host.Host.{Ghosts}
 use Rattle.rig.specs.declared.say.Say.{Ghosts as SayGhosts}
-use Rattle.run_lines.specs.Told.{Said, SameHost}
+use Rattle.run_lines.specs.Told.{Said, Prints, SameHost}
 use Rattle.volume_tool.specs.Course.{Course, status_of, line_of}
-
--- the line was said
-pub record IsSaid {S : Type 0} (say : SayGhosts S) (old new : S) (line : List ℕ) : Type 0 where
-  pub gained : say.lines new ≡ gains (say.lines old) line
-  pub later : say.say_faults old ≤ say.say_faults new
-
--- it could not be said
-pub record IsUnsaid {S : Type 0} (say : SayGhosts S) (old new : S) : Type 0 where
-  pub same : say.lines new ≡ say.lines old
-  pub failed : Rose (say.say_faults old) (say.say_faults new)
-
--- the line of a run that was done: the status is 0 where it was said, and else 74
-abbrev pub Prints : {S : Type 0} → SayGhosts S → List ℕ → S → S → ℕ → Type 0
-Prints say line old new result = ((result ≡ 0) × IsSaid say old new line) ⊎ ((result ≡ 74) × IsUnsaid say old new)
 
 -- The status and the line of a run: a line that can't be said decides on the status of a run that was done, and is passed over where a run was refused.
 abbrev pub Answers : {S : Type 0} → SayGhosts S → ℕ → List ℕ → S → S → ℕ → Type 0
-Answers say zero line old new result = Prints say line old new result
+Answers say zero line old new result = Prints say 0 line old new result
 Answers say (suc n) line old new result = (result ≡ suc n) × Said say old new (line ∷ [])
 
 -- This was said with that status, and nothing else was asked of the host.
