@@ -9,3 +9,6 @@ mod volumes;
 
 pub use options::Options;
 pub use reading::{Words, read_words};
+
+#[cfg(test)]
+mod tests;
