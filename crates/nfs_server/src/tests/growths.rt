@@ -70,11 +70,7 @@ fn inode(change: Change, reached: Reached) -> Inode
 }
 
 // The disk then, but for the free blocks, of a file that grows.
-fn grown_disk(
-    alloc: Global,
-    change: Change,
-    reached: Reached,
-) -> Result<Vec<[u8; 512]>, Fail> {
+fn grown_disk(alloc: Global, change: Change, reached: Reached) -> Result<Vec<[u8; 512]>, Fail> {
     let mut body = [[b'a'; 512], [b'a'; 512], [0; 512]];
     if !matches!(reached, Reached::Nothing) {
         body[1][188..].copy_from_slice(&[0; 324]);
@@ -250,7 +246,10 @@ fn broken(
 
 #[test]
 fn a_failed_write_grows_its_file_by_its_last_put_alone(rt: HostRuntime) -> Result<(), Fail> {
-    assert_eq!(rt; broken(rt.alloc(), Change::Write, &WRITE_ROWS, false)?, None);
+    assert_eq!(rt;
+        broken(rt.alloc(), Change::Write, &WRITE_ROWS, false)?,
+        None
+    );
     Ok(())
 }
 
