@@ -1,10 +1,10 @@
 //! Each device call of a call that changes the size of its file fails, or is cut; then the rig crashes and is served again.
 ghost use Rattle.v7_layout.specs.Written.{AddressesFit};
 
-use crate::tests::outside::{has_sent, opening_calls, rig_of, served};
-use crate::tests::volumes::{has_files, rig_with};
+use crate::tests::outside::{datagram, has_sent, opening_calls, rig_of, served, served_all};
+use crate::tests::volumes::{has_files, rig_with, super_of, with_fault};
 use crate::tests::worked::{
-    ATTRIBUTES, CALL, CREDENTIAL, HANDLE, REPLY, add_words, status_reply, write_with,
+    ATTRIBUTES, CALL, CREDENTIAL, HANDLE, REPLY, add_words, getattr, status_reply, write_with,
 };
 use rig_mem::MemRig;
 use std::alloc::Global;
@@ -187,23 +187,6 @@ const SETATTR_ROWS: [Row; 10] = [
     (5, true, Reached::All),
 ];
 
-// A rig whose call of that number fails, or is cut where `cuts` is true.
-fn rig_to_fail(
-    alloc: Global,
-    change: Change,
-    number: u64,
-    newer: bool,
-    cuts: bool,
-) -> Result<MemRig, Fail> {
-    let mut rig = rig_with(alloc, disk(alloc, change, Reached::Nothing)?);
-    if cuts {
-        rig.stop_at(number, newer);
-        return Ok(rig);
-    }
-    rig.fail(number, newer)?;
-    Ok(rig)
-}
-
 // A rig that is served the call, then crashes, and is served it again: both times it is as it has to be.
 fn is_kept(alloc: Global, rig: MemRig, change: Change, reached: Reached) -> Result<bool, Fail> {
     let bytes = request(alloc, change)?;
@@ -236,7 +219,9 @@ fn broken(
         rig_with(alloc, disk(alloc, change, Reached::Nothing)?),
     )?;
     for (number, newer, reached) in rows {
-        let rig = rig_to_fail(alloc, change, opening.saturating_add(*number), *newer, cuts)?;
+        let disk = disk(alloc, change, Reached::Nothing)?;
+        let number_in_all = opening.saturating_add(*number);
+        let rig = with_fault(rig_with(alloc, disk), number_in_all, *newer, cuts)?;
         if !is_kept(alloc, rig, change, *reached)? {
             return Ok(Some((*number, *newer)));
         }
@@ -266,5 +251,76 @@ fn a_size_is_set_whole_or_not_at_all_whatever_fails_or_is_cut(rt: HostRuntime) -
             assert_eq!(rt; broken(rt.alloc(), change, &SETATTR_ROWS, cuts)?, None);
         }
     }
+    Ok(())
+}
+
+// ---- a hurt volume that is mended
+
+// A rig whose file shrinks by a SETATTR that is cut short: its inode is put, and the block of addresses is not.
+fn hurt_rig(alloc: Global) -> Result<MemRig, Fail> {
+    let rig = rig_with(alloc, disk(alloc, Change::Shrink, Reached::Nothing)?);
+    let opening = opening_calls(alloc, rig)?;
+    let rig = rig_with(alloc, disk(alloc, Change::Shrink, Reached::Nothing)?);
+    with_fault(rig, opening.saturating_add(5), false, false)
+}
+
+// Serves it that SETATTR, and a GETATTR, which mends the volume first; then it is stopped.
+fn mended(alloc: Global, rig: MemRig) -> Result<(u8, Option<MemRig>), Fail> {
+    let mut events = Vec::new(alloc);
+    events.push(datagram(&request(alloc, Change::Shrink)?))?;
+    events.push(datagram(&getattr(alloc)?))?;
+    let (status, host) = served_all(alloc, rig, events)?;
+    Ok((status, rig_of(host)))
+}
+
+// Whether the file is the smaller one, with nothing to mend, on a volume that was stopped cleanly.
+fn is_mended(alloc: Global, rig: &MemRig) -> Result<bool, Fail> {
+    let Some(super_block) = super_of(rig) else {
+        return Ok(false);
+    };
+    Ok(super_block.s_fmod == 0 && has_reached(alloc, rig, Change::Shrink, Reached::All)?)
+}
+
+// After a second fault, at a call of the mend or the stop, and a crash, the volume is served and stopped with the same file.
+fn is_mended_again(alloc: Global, number: u64, newer: bool, cuts: bool) -> Result<bool, Fail> {
+    let rig = with_fault(hurt_rig(alloc)?, number, newer, cuts)?;
+    let (status, back) = mended(alloc, rig)?;
+    let Some(rig) = back else {
+        return Ok(false);
+    };
+    let (then, host) = served_all(alloc, rig.crash(true, 0), Vec::new(alloc))?;
+    let Some(rig) = rig_of(host) else {
+        return Ok(false);
+    };
+    Ok((status == 0 || status == 74) && then == 0 && is_mended(alloc, &rig)?)
+}
+
+// The first call after the SETATTR at which a fault leaves another file.
+fn broken_mend(alloc: Global, first: u64, last: u64) -> Result<Option<(u64, bool, bool)>, Fail> {
+    for number in first..=last {
+        for newer in [false, true] {
+            for cuts in [false, true] {
+                if !is_mended_again(alloc, number, newer, cuts)? {
+                    return Ok(Some((number, newer, cuts)));
+                }
+            }
+        }
+    }
+    Ok(None)
+}
+
+#[test]
+fn a_hurt_volume_keeps_its_files_whatever_fails_or_is_cut_while_it_is_mended(
+    rt: HostRuntime,
+) -> Result<(), Fail> {
+    let alloc = rt.alloc();
+    let rig = rig_with(alloc, disk(alloc, Change::Shrink, Reached::Nothing)?);
+    let opening = opening_calls(alloc, rig)?;
+    let (status, back) = mended(alloc, hurt_rig(alloc)?)?;
+    let Some(rig) = back else {
+        panic!(rt; "no rig came back");
+    };
+    assert!(rt; status == 0 && is_mended(alloc, &rig)?);
+    assert_eq!(rt; broken_mend(alloc, opening.saturating_add(6), rig.calls())?, None);
     Ok(())
 }

@@ -1,7 +1,7 @@
 //! How a volume is stopped, and what is left where that is cut.
 use crate::tests::boards::with_board;
 use crate::tests::outside::{has_said, host_at, rig_of, run, served_by};
-use crate::tests::volumes::{is_stopped, is_volume, patched, rig, rig_with};
+use crate::tests::volumes::{is_stopped, is_volume, patched, rig, rig_with, with_fault};
 use rig_mem::MemRig;
 use std::alloc::Global;
 use std::test::Fail;
@@ -53,10 +53,16 @@ fn calls_of(alloc: Global, boarded: bool) -> Result<u64, Fail> {
     }
 }
 
-// After a run that is cut at that call and a crash the volume is served and stopped, with its file.
-fn is_kept(alloc: Global, boarded: bool, number: u64, newer: bool) -> Result<bool, Fail> {
-    let mut rig = to_mend(alloc, boarded)?;
-    rig.stop_at(number, newer);
+// After a run whose call of that number fails, or is cut, and a crash the volume is served and stopped, with its file. A run that is cut tells that
+// its device failed; one with a call that fails may have got over it.
+fn is_kept(
+    alloc: Global,
+    boarded: bool,
+    number: u64,
+    newer: bool,
+    cuts: bool,
+) -> Result<bool, Fail> {
+    let rig = with_fault(to_mend(alloc, boarded)?, number, newer, cuts)?;
     let (status, host) = served_by(alloc, rig, &["d:b"], Vec::new(alloc))?;
     let Some(rig) = rig_of(host) else {
         return Ok(false);
@@ -65,14 +71,15 @@ fn is_kept(alloc: Global, boarded: bool, number: u64, newer: bool) -> Result<boo
     let Some(rig) = rig_of(host) else {
         return Ok(false);
     };
-    Ok(status == 74 && then == 0 && is_stopped(&rig, 1500) && is_volume(alloc, &rig, FRESH)?)
+    let told = status == 74 || (status == 0 && !cuts);
+    Ok(told && then == 0 && is_stopped(&rig, 1500) && is_volume(alloc, &rig, FRESH)?)
 }
 
 // The first call of an opening or a stopping after which the volume isn't as it has to be.
-fn broken_call(alloc: Global, boarded: bool) -> Result<Option<(u64, bool)>, Fail> {
+fn broken_call(alloc: Global, boarded: bool, cuts: bool) -> Result<Option<(u64, bool)>, Fail> {
     for number in 1..=calls_of(alloc, boarded)? {
         for newer in [false, true] {
-            if !is_kept(alloc, boarded, number, newer)? {
+            if !is_kept(alloc, boarded, number, newer, cuts)? {
                 return Ok(Some((number, newer)));
             }
         }
@@ -82,8 +89,15 @@ fn broken_call(alloc: Global, boarded: bool) -> Result<Option<(u64, bool)>, Fail
 
 #[test]
 fn a_cut_while_opening_or_stopping_keeps_the_files(rt: HostRuntime) -> Result<(), Fail> {
-    assert_eq!(rt; broken_call(rt.alloc(), false)?, None);
-    assert_eq!(rt; broken_call(rt.alloc(), true)?, None);
+    assert_eq!(rt; broken_call(rt.alloc(), false, true)?, None);
+    assert_eq!(rt; broken_call(rt.alloc(), true, true)?, None);
+    Ok(())
+}
+
+#[test]
+fn a_fault_while_opening_or_stopping_keeps_the_files(rt: HostRuntime) -> Result<(), Fail> {
+    assert_eq!(rt; broken_call(rt.alloc(), false, false)?, None);
+    assert_eq!(rt; broken_call(rt.alloc(), true, false)?, None);
     Ok(())
 }
 

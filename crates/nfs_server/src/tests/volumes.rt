@@ -21,6 +21,17 @@ pub fn rig(alloc: Global, shape: Shape) -> Result<MemRig, Fail> {
     Ok(rig_with(alloc, test_volume(alloc, shape)?))
 }
 
+/// The rig, whose call of that number fails, or is cut where `cuts` is true, and leaves the newer state or the older.
+pub fn with_fault(rig: MemRig, number: u64, newer: bool, cuts: bool) -> Result<MemRig, Fail> {
+    let mut rig = rig;
+    if cuts {
+        rig.stop_at(number, newer);
+        return Ok(rig);
+    }
+    rig.fail(number, newer)?;
+    Ok(rig)
+}
+
 /// The disk with these bytes, but those past its sectors' ends.
 pub fn patched(disk: Vec<[u8; 512]>, patches: &[Patch]) -> Vec<[u8; 512]> {
     let mut disk = disk;
