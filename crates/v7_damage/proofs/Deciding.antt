@@ -6,8 +6,6 @@ use Rattle.v7_map.specs.Image.{inode_sector}
 use Rattle.v7_map.specs.Frame.{Frame, Body, frame}
 use Rattle.v7_map.specs.Tree.{Tree, tree, is_walked}
 use Rattle.v7_map.specs.Damage.{Dots, Entry, has_dots}
-use Rattle.v7_map.proofs.Walks.{walked_reached}
-use Rattle.v7_map.proofs.Used.{walked_is_dir}
 use Rattle.v7_damage.specs.declared.bodies.Bodies.{Bodies}
 use Rattle.v7_damage.specs.declared.damage.Damage.TheVariants as kind
 use Rattle.v7_damage.specs.declared.names.Kept.{Kept}

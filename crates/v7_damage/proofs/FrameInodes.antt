@@ -1,9 +1,7 @@
 -- The inodes that the frame of an image has, and the tables of them.
-use Rattle.std.proofs.Common.{◌≡◌, ℕ, ◌+◌, ◌*◌, ◌/◌, ◌<◌, ◌≤◌, Bool, true, false, cond, ◌&&◌, ◌==◌, List, [], ◌∷◌, ◌++◌, length, map, get_or, refl, sym, ap, subst, ◌∙◌, arith, ⊎_elim, leb}
-use Rattle.std.specs.List.{range_with_len}
-use Rattle.std.proofs.lemmas.Bool.{cases_lt, cases_Bool, le-leb, lt-leb}
-use Rattle.std.proofs.lemmas.List.{get_or_push, get_or_append_left, get_or-append-add, length-append, length_push}
-use Rattle.std.proofs.lemmas.List.FromFn.{get_or-map-range_with_len, length-map-range_with_len}
+use Rattle.std.proofs.Common.{◌≡◌, ℕ, ◌+◌, ◌/◌, ◌<◌, ◌≤◌, Bool, true, false, cond, ◌&&◌, ◌==◌, List, [], ◌∷◌, ◌++◌, length, get_or, refl, sym, ap, subst, ◌∙◌, arith, ⊎_elim, leb}
+use Rattle.std.proofs.lemmas.Bool.{cases_lt, le-leb, lt-leb}
+use Rattle.std.proofs.lemmas.List.{get_or_push, get_or_append_left, length_push}
 use Rattle.stable.specs.Store.{Image}
 use Rattle.v7_layout.specs.declared.inode.Inode.{Inode}
 use Rattle.v7_layout.specs.Numbers.{part, field}
@@ -13,7 +11,6 @@ use Rattle.v7_map.specs.Frame.{Frame, Head, Body, head_of, address_of, frame, is
 use Rattle.v7_map.specs.Damage.{place_at}
 use Rattle.v7_map.proofs.Listings.{free_places}
 use Rattle.v7_damage.specs.declared.bodies.Bodies.{Bodies}
-use Rattle.v7_damage.specs.Stored.{body_at}
 use Rattle.v7_damage.specs.Tables.{AreBodies, HasBody, HasTables, IsFirst, IsNext, block_kept, slots_in_size, slots_kept, start_kept}
 use Rattle.v7_damage.specs.Summaries.{summary_at}
 use Rattle.v7_damage.specs.declared.summary.Summary.{Summary}

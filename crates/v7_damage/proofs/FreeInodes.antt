@@ -1,11 +1,7 @@
 -- Free inodes: their tests, and their entries in the tables.
-use Rattle.std.proofs.Common.{◌≡◌, ◌≢◌, ℕ, ◌+◌, ◌/◌, ◌<◌, ◌≤◌, Bool, true, false, cond, not, ◌==◌, List, [], ◌∷◌, ◌++◌, map, append-nil, length, refl, sym, ap, subst, ◌∙◌, arith, eq-eqb, Some, None}
+use Rattle.std.proofs.Common.{◌≡◌, ◌≢◌, ℕ, ◌+◌, ◌/◌, ◌≤◌, Bool, true, false, not, ◌==◌, List, [], ◌∷◌, ◌++◌, sym, ap, subst, ◌∙◌, arith, eq-eqb, Some, None}
 use Rattle.std.specs.Option.{option_map}
-use Rattle.std.specs.List.{range_with_len}
 use Rattle.stable.specs.Store.{Image}
-use Rattle.v7_layout.specs.declared.inode.Inode.{Inode}
-use Rattle.v7_layout.specs.Numbers.{part, field}
-use Rattle.v7_layout.specs.Records.{inode_of}
 use Rattle.v7_map.specs.Image.{inode_at, inode_sector}
 use Rattle.v7_map.specs.Frame.{Frame, frame, is_directory}
 use Rattle.v7_map.specs.Damage.{Kind, place_at}
@@ -13,11 +9,9 @@ use Rattle.v7_map.proofs.Listings.{free_places}
 use Rattle.v7_damage.specs.declared.bodies.Bodies.{Bodies}
 use Rattle.v7_damage.specs.declared.damage.Damage.TheVariants as kind
 use Rattle.v7_damage.specs.Marks.{AreSeen}
-use Rattle.v7_damage.specs.Stored.{body_at, place_of_body}
 use Rattle.v7_damage.specs.Tables.{AreBodies, HasTables, IsNext}
 use Rattle.v7_damage.specs.Summaries.{no_summary}
 use Rattle.v7_damage.specs.Tests.{first_failing, kind_of_test, earlier_blocks, tests_of, told}
-use Rattle.v7_damage.proofs.BodyPlaces.{place-body}
 use Rattle.v7_damage.proofs.Failing.{fails_here, none_fails}
 use Rattle.v7_damage.proofs.FrameInodes.{bodies_more}
 use Rattle.v7_damage.proofs.InodeTests.{tests_root, tests_free, root_fails, earlier_next, seen_free, told_inode}

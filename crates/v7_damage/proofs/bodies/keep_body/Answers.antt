@@ -3,7 +3,7 @@ use Rattle.std.specs.List.{range_with_len}
 use Rattle.v7_damage.specs.Stored.{body_at}
 use Rattle.v7_damage.specs.Summaries.{summary_by}
 use Rattle.v7_damage.specs.Tables.{slots_kept}
-use Rattle.v7_damage.proofs.Keeping.{next_kept, next_left}
+use Rattle.v7_damage.proofs.Keeping.{next_kept}
 use Rattle.v7_damage.proofs.SlotSectors.{pushed}
 use Rattle.v7_damage.proofs.bodies.keep_body.Goals as goal
 
