@@ -2,8 +2,8 @@
 //
 //   volume make KIND FILE        few: 10 files in the root; many: 64,000 files of 12 sectors in 640 directories; directories: 7,401 directories of
 //                                138 sectors, whose slots name 58,000 empty files some 560 times each
-//   volume read FILE             reads the super-block, and each sector of the i-list, each block of addresses and each directory's sector once, from memory; prints
-//                                milliseconds, the sectors that it read, and a sum of them
+//   volume read FILE             reads the super-block, and each sector of the i-list, each block of addresses and each directory's sector once,
+//                                from memory; prints milliseconds, the sectors that it read, and a sum of them
 //   volume pread FILE            the same by a positioned read each, from the file
 //   volume forget FILE           lets the system forget what it keeps of the file in memory
 #define _GNU_SOURCE
