@@ -1,22 +1,16 @@
 -- Whether there is nothing to mend, by inodes.
-use Rattle.std.proofs.Common.{◌≡◌, ◌≢◌, ℕ, zero, suc, ◌+◌, ◌-◌, ◌<◌, ◌≤◌, Bool, true, false, not, ◌&&◌, ◌||◌, ◌==◌, List, get_or, refl, sym, ap, ◌∙◌, arith, ⊎_elim, ltb, eq-eqb}
+use Rattle.std.proofs.Common.{◌≡◌, ◌≢◌, ℕ, zero, suc, ◌+◌, ◌-◌, ◌<◌, ◌≤◌, Bool, true, false, not, ◌&&◌, ◌||◌, ◌==◌, refl, sym, ap, ◌∙◌, arith, ⊎_elim, ltb, eq-eqb}
 use Rattle.std.specs.List.{range_with_len, list_any, list_all}
 use Rattle.std.proofs.lemmas.Bool.{cases_eq, cases_lt, cases_Bool, eqb-true, ne_eqb, lt-ltb, le-ltb}
 use Rattle.files_model.specs.Files.{sectors_of}
-use Rattle.stable.specs.Store.{Image}
-use Rattle.v7_layout.specs.declared.inode.Inode.{Inode}
-use Rattle.v7_map.specs.Image.{inode_at}
-use Rattle.v7_map.specs.Frame.{Frame, IsFrame, Body, Single, frame, head_of, address_of}
+use Rattle.v7_map.specs.Frame.{Frame, IsFrame, Body, Single}
 use Rattle.v7_map.specs.Tree.{tree, links, is_named}
 use Rattle.v7_map.specs.Weak.{IsWeak, IsStrong}
-use Rattle.v7_map.specs.Damage.{place_at}
 use Rattle.v7_map.proofs.Frames.{and_left, and_right}
 use Rattle.v7_map.proofs.Walks.{and_both, or_left, or_right}
-use Rattle.v7_damage.specs.Stored.{place_of_body}
 use Rattle.v7_damage.specs.Summaries.{none_past, some_listed, is_tidy}
 use Rattle.v7_inspect.specs.Tidy.{is_strong_at}
 use Rattle.v7_damage.proofs.Ranges.{all_step}
-use Rattle.v7_damage.proofs.BodyPlaces.{place-body}
 
 pub all_more : (p : ℕ → Bool) (k : ℕ) → 1 ≤ k → list_all p (range_with_len 1 (k + 1 - 1)) ≡ (list_all p (range_with_len 1 (k - 1)) && p k)
 all_more p k low =

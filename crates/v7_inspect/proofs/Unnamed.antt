@@ -1,5 +1,5 @@
 -- Inodes that are named, and those that aren't.
-use Rattle.std.proofs.Common.{◌≡◌, ◌≢◌, ℕ, Bool, true, false, cond, not, ◌&&◌, ◌||◌, ◌==◌, refl, sym, ap, ◌∙◌}
+use Rattle.std.proofs.Common.{◌≡◌, ℕ, Bool, true, false, cond, not, ◌&&◌, ◌||◌, ◌==◌, refl, sym, ap, ◌∙◌}
 use Rattle.stable.specs.Store.{Image}
 use Rattle.v7_map.specs.Frame.{Body, Single, Frame, frame}
 use Rattle.v7_map.specs.Tree.{tree, links, is_named}

@@ -1,8 +1,8 @@
 -- The blocks that are in use.
-use Rattle.std.specs.Prelude.{◌≡◌, ◌≢◌, ◌<◌, ℕ, ◌+◌, Bool, List, length, min, nat_le, ◌==◌, ◌&&◌, ◌||◌, not, count_by, if◌then◌else◌}
+use Rattle.std.specs.Prelude.{◌≡◌, ◌≢◌, ◌<◌, ℕ, Bool, List, length, nat_le, ◌==◌, ◌&&◌, ◌||◌, not, if◌then◌else◌}
 use Rattle.std.specs.List.{range_with_len, list_any}
 use Rattle.stable.specs.Store.{Image}
-use Rattle.v7_map.specs.Frame.{Frame, Body, Single, frame}
+use Rattle.v7_map.specs.Frame.{Body, Single, frame}
 use Rattle.v7_map.specs.Tree.{tree, is_named}
 use Rattle.v7_damage.specs.Marks.{mark_at}
 use Rattle.v7_damage.specs.Summaries.{needs, sectors_in_size}

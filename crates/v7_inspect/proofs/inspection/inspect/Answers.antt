@@ -1,5 +1,3 @@
-use Rattle.std.proofs.Common.{◌≡◌}
-use Rattle.stable.specs.Store.{Image}
 use Rattle.v7_inspect.proofs.inspection.inspect.Goals as goal
 
 pub seen_of-requires : goal.seen_of-requires

@@ -1,4 +1,4 @@
-use Rattle.std.proofs.Common.{rules, arith, ◌≡◌, ◌+◌, ◌-◌, ◌∙◌, ◌||◌, ℕ, length, sym, ap, subst}
+use Rattle.std.proofs.Common.{rules, arith, ◌≡◌, ◌-◌, ◌∙◌, ◌||◌, ℕ, length, sym, ap, subst}
 use Rattle.stable.specs.Store.{Image}
 use Rattle.stable.proofs.Looking.{no_look, looks_again}
 use Rattle.v7_damage.specs.Stored.{Keeps}

@@ -1,4 +1,4 @@
-use Rattle.std.proofs.Common.{rules, arith, ◌≡◌, ◌+◌, ◌∙◌, ◌==◌, ◌&&◌, ◌||◌, not, leb, sym, ap}
+use Rattle.std.proofs.Common.{arith, ◌≡◌, ◌∙◌, ◌==◌, ◌&&◌, ◌||◌, not, leb, sym, ap}
 use Rattle.v7_damage.specs.Marks.{mark_at}
 use Rattle.v7_damage.specs.Stored.{body_at}
 use Rattle.v7_damage.proofs.Ranges.{any_more, or_more}

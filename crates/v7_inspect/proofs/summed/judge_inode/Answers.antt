@@ -1,10 +1,9 @@
-use Rattle.std.proofs.Common.{rules, arith, ◌≡◌, ◌<◌, ◌∙◌, ◌==◌, ◌&&◌, ℕ, true, false, cond, get_or, not, sym, ap}
+use Rattle.std.proofs.Common.{rules, arith, ◌≡◌, ◌∙◌, ◌==◌, ◌&&◌, ℕ, true, false, cond, get_or, not, sym, ap}
 use Rattle.std.proofs.lemmas.List.{get_or_read}
-use Rattle.stable.specs.Store.{Image}
-use Rattle.v7_map.specs.Frame.{Body, Single, frame}
+use Rattle.v7_map.specs.Frame.{frame}
 use Rattle.v7_map.specs.Tree.{tree, is_named, links}
 use Rattle.v7_damage.specs.declared.summary.Summary.{Summary}
-use Rattle.v7_damage.specs.Summaries.{is_tidy, needs, no_summary, summary_at}
+use Rattle.v7_damage.specs.Summaries.{needs, no_summary, summary_at}
 use Rattle.v7_inspect.proofs.Mending.{strong_named}
 use Rattle.v7_inspect.proofs.Tallies.{named-by}
 use Rattle.v7_inspect.proofs.Unnamed.{unnamed_needs, unnamed_strong, named_here}

@@ -1,4 +1,4 @@
-use Rattle.std.proofs.Common.{rules, arith, ◌≡◌, ◌+◌, ◌-◌, ◌∙◌, ◌&&◌, ℕ, length, sym, ap}
+use Rattle.std.proofs.Common.{arith, ◌≡◌, ◌+◌, ◌-◌, ◌∙◌, ◌&&◌, ℕ, sym}
 use Rattle.std.specs.List.{range_with_len, sum_by, list_all}
 use Rattle.v7_map.specs.Frame.{frame}
 use Rattle.v7_map.specs.Tree.{tree}
