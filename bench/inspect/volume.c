@@ -1,8 +1,9 @@
 // Makes a volume of 1,048,576 sectors with 65,528 inodes, and times the reading of its i-list, maps and directories.
 //
-//   volume make few|many FILE    few: 10 files in the root; many: 64,000 files of 12 sectors in 640 directories
-//   volume read FILE             reads each sector of the i-list, each block of addresses and each directory's sector once, from memory; prints
-//                                milliseconds, the sectors that it read, and a sum of them
+//   volume make KIND FILE        few: 10 files in the root; many: 64,000 files of 12 sectors in 640 directories; directories: 7,401 directories of
+//                                138 sectors, whose slots name 58,000 empty files some 560 times each
+//   volume read FILE             reads the super-block, and each sector of the i-list, each block of addresses and each directory's sector once,
+//                                from memory; prints milliseconds, the sectors that it read, and a sum of them
 //   volume pread FILE            the same by a positioned read each, from the file
 //   volume forget FILE           lets the system forget what it keeps of the file in memory
 #define _GNU_SOURCE
@@ -58,13 +59,40 @@ static void slot(uint32_t directory, uint32_t k, uint32_t i, const char *name) {
     strncpy((char *)at + 2, name, 14);
 }
 
-static void make_volume(int many) {
-    char name[15];
+static void make_super(void) {
     uint8_t *s = sector(1);
     put(s, 2, ISIZE);
     put(s + 2, 4, SECTORS);
     memcpy(s + 434, "VOLA00", 6);
     put(s + 440, 4, 1);
+}
+
+// Directories with all the slots that they can have: the root names the first ones, the first of these the rest, and each names files after that.
+static void make_directories(void) {
+    enum { DIRECTORIES = 7400, EMPTY = 58000, SLOTS = 4416, FIRST = 3, LOW = 4000 };
+    char name[15];
+    uint32_t next_file = 0;
+    make_super();
+    make(2, 0040755, 2 + LOW, 16 * SLOTS);
+    for (uint32_t d = 0; d < DIRECTORIES; d++) make(FIRST + d, 0040755, d == 0 ? 2 + DIRECTORIES - LOW : 2, 16 * SLOTS);
+    for (uint32_t k = 0; k < EMPTY; k++) make(FIRST + DIRECTORIES + k, 0100644, 0, 0);
+    for (uint32_t d = 0; d <= DIRECTORIES; d++) {
+        uint32_t ino = d == DIRECTORIES ? 2 : FIRST + d;
+        uint32_t from = ino == 2 ? 0 : LOW, to = ino == 2 ? LOW : ino == FIRST ? DIRECTORIES : LOW;
+        slot(ino, 0, ino, ".");
+        slot(ino, 1, ino == 2 || d < LOW ? 2 : FIRST, "..");
+        for (uint32_t k = 2; k < SLOTS; k++) {
+            uint32_t named = from < to ? FIRST + from++ : FIRST + DIRECTORIES + next_file++ % EMPTY;
+            snprintf(name, sizeof name, "n%u", k);
+            slot(ino, k, named, name);
+            if (named >= FIRST + DIRECTORIES) put(inode(named) + 2, 2, get(inode(named) + 2, 2) + 1);
+        }
+    }
+}
+
+static void make_volume(int many) {
+    char name[15];
+    make_super();
     uint32_t directories = many ? 640 : 0, files = many ? FILES : 10;
     uint32_t direct = many ? 0 : files;
     make(2, 0040755, 2 + directories, 16 * (2 + directories + direct));
@@ -105,7 +133,8 @@ static void read_sector(uint32_t s, uint8_t *into) {
 
 static void read_all(void) {
     uint8_t list[512], map[512], slots[512];
-    for (uint32_t s = 2; s < ISIZE; s++) {
+    read_sector(1, list);
+    for (uint32_t s = 2, isize = get(list, 2); s < isize; s++) {
         read_sector(s, list);
         for (const uint8_t *n = list; n < list + 512; n += 64) {
             if (get(n, 2) == 0) continue;
@@ -142,7 +171,8 @@ int main(int argc, char **argv) {
     disk = calloc(SECTORS, 512);
     if (disk == NULL) return 1;
     if (strcmp(argv[1], "make") == 0 && argc == 4) {
-        make_volume(strcmp(argv[2], "many") == 0);
+        if (strcmp(argv[2], "directories") == 0) make_directories();
+        else make_volume(strcmp(argv[2], "many") == 0);
         FILE *file = fopen(argv[3], "wb");
         return file == NULL || fwrite(disk, 512, SECTORS, file) != SECTORS || fclose(file) != 0;
     }

@@ -6,8 +6,6 @@ use Rattle.v7_map.specs.Image.{inode_sector}
 use Rattle.v7_map.specs.Frame.{Frame, Body, frame}
 use Rattle.v7_map.specs.Tree.{Tree, tree, is_walked}
 use Rattle.v7_map.specs.Damage.{Dots, Entry, has_dots}
-use Rattle.v7_map.proofs.Walks.{walked_reached}
-use Rattle.v7_map.proofs.Used.{walked_is_dir}
 use Rattle.v7_damage.specs.declared.bodies.Bodies.{Bodies}
 use Rattle.v7_damage.specs.declared.damage.Damage.TheVariants as kind
 use Rattle.v7_damage.specs.declared.names.Kept.{Kept}
@@ -16,11 +14,9 @@ use Rattle.v7_damage.specs.declared.parents.Parents.{Parents}
 use Rattle.v7_damage.specs.declared.walk.Walks.{Walks}
 use Rattle.v7_damage.specs.Marks.{mark_at}
 use Rattle.v7_damage.specs.Names.{HasNoted, begins_with_dots, is_held, tests_of_directory, tests_of_slots}
-use Rattle.v7_damage.specs.Stored.{block_kept}
 use Rattle.v7_damage.specs.Tests.{first_failing, told}
 use Rattle.v7_damage.proofs.DirectoryTests.{dir_none, dir_some}
 use Rattle.v7_damage.proofs.Failing.{fails_here, passes_on, none_fails}
-use Rattle.v7_damage.proofs.ReadSlots.{slot-block}
 
 and_again : (a b c : Bool) → (a && (b && c)) ≡ ((a && b) && c)
 and_again true b c = refl
@@ -72,12 +68,11 @@ module _ (image : Image) (types : List ℕ) (bodies : Bodies) (walks : Walks) (p
       pub wrong_later : (wrong : WrongSlot) → kept.wrong ≡ Some wrong → d < wrong.ino → first_failing f (tests_of_directory (tree f) d) ≡ None
       wrong_later wrong is lt = after_dots dotted held ∙ (has.tested.failed wrong is).before.each d some lt walks'
 
-      pub wrong_here : (wrong : WrongSlot) → kept.wrong ≡ Some wrong → wrong.ino ≡ d → (sector : ℕ) → sector ≡ block_kept bodies d (wrong.index / 32)
+      pub wrong_here : (wrong : WrongSlot) → kept.wrong ≡ Some wrong → wrong.ino ≡ d → (sector : ℕ) → sector ≡ wrong.sector
           → told f (first_failing f (tests_of_directory (tree f) d)) ≡ Some (sector, kind.Slot)
       wrong_here wrong is same sector at =
           let w = has.tested.failed wrong is in
           let fails : first_failing f (tests_of_slots (tree f) d 0 (length (f.slots d))) ≡ Some (Entry d wrong.index) =
           subst (λ i. first_failing f (tests_of_slots (tree f) i 0 (length (f.slots i))) ≡ Some (Entry i wrong.index)) same w.fails in
-          let inside : wrong.index < length (f.slots d) = subst (λ i. wrong.index < length (f.slots i)) same w.inside in
-          let block : f.address d (Body (wrong.index / 32)) ≡ sector = sym (at ∙ slot-block image bodies d (has.can d (walked_is_dir (walked_reached (tree f) d walks'))) wrong.index inside) in
+          let block : f.address d (Body (wrong.index / 32)) ≡ sector = sym (at ∙ w.stands ∙ ap (λ i. f.address i (Body (wrong.index / 32))) same) in
           ap (told f) (after_dots dotted held ∙ fails) ∙ (λ z. Some (block z, kind.Slot))

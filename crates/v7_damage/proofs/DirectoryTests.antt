@@ -12,7 +12,7 @@ use Rattle.v7_map.proofs.SlotLists.{flat_more}
 use Rattle.v7_damage.specs.declared.damage.RepairFault.{RepairFault}
 use Rattle.v7_damage.specs.declared.damage.RepairFault.TheVariants.{Damaged, Failed, NoMemory}
 use Rattle.v7_damage.specs.declared.bodies.Bodies.{Bodies}
-use Rattle.v7_damage.specs.Stored.{CanRead}
+use Rattle.v7_damage.specs.Tables.{CanRead}
 use Rattle.v7_damage.specs.Names.{tests_of_slots, tests_of_directory, tests_of_directories, slots_until, HasKept, AreCounts, AreNamed}
 use Rattle.v7_damage.specs.Tests.{first_failing, told, IsFaultTold, IsNoDamage}
 use Rattle.v7_damage.proofs.InodeTests.{told_more}

@@ -1,9 +1,7 @@
 -- The inodes that the frame of an image has, and the tables of them.
-use Rattle.std.proofs.Common.{◌≡◌, ℕ, ◌+◌, ◌/◌, ◌<◌, ◌≤◌, Bool, true, false, cond, ◌&&◌, ◌==◌, List, [], ◌∷◌, ◌++◌, length, map, get_or, refl, sym, ap, subst, ◌∙◌, arith, ⊎_elim, leb}
-use Rattle.std.specs.List.{range_with_len}
-use Rattle.std.proofs.lemmas.Bool.{cases_lt, cases_Bool, le-leb, lt-leb}
-use Rattle.std.proofs.lemmas.List.{get_or_push, get_or_append_left, get_or-append-add, length-append, length_push}
-use Rattle.std.proofs.lemmas.List.FromFn.{get_or-map-range_with_len, length-map-range_with_len}
+use Rattle.std.proofs.Common.{◌≡◌, ℕ, ◌+◌, ◌/◌, ◌<◌, ◌≤◌, Bool, true, false, cond, ◌&&◌, ◌==◌, List, [], ◌∷◌, ◌++◌, length, get_or, refl, sym, ap, subst, ◌∙◌, arith, ⊎_elim, leb}
+use Rattle.std.proofs.lemmas.Bool.{cases_lt, le-leb, lt-leb}
+use Rattle.std.proofs.lemmas.List.{get_or_push, get_or_append_left, length_push}
 use Rattle.stable.specs.Store.{Image}
 use Rattle.v7_layout.specs.declared.inode.Inode.{Inode}
 use Rattle.v7_layout.specs.Numbers.{part, field}
@@ -13,7 +11,10 @@ use Rattle.v7_map.specs.Frame.{Frame, Head, Body, head_of, address_of, frame, is
 use Rattle.v7_map.specs.Damage.{place_at}
 use Rattle.v7_map.proofs.Listings.{free_places}
 use Rattle.v7_damage.specs.declared.bodies.Bodies.{Bodies}
-use Rattle.v7_damage.specs.Stored.{AreBodies, HasBody, HasTables, IsFirst, body_at, slots_in_size, slots_kept}
+use Rattle.v7_damage.specs.Tables.{AreBodies, HasBody, HasTables, IsFirst, IsNext, block_kept, slots_in_size, slots_kept, start_kept}
+use Rattle.v7_damage.specs.Summaries.{summary_at}
+use Rattle.v7_damage.specs.declared.summary.Summary.{Summary}
+use Rattle.v7_damage.proofs.Summing.{summaries_first, summaries_more}
 use Rattle.v7_damage.specs.Tests.{HasInode, HasNumbers}
 
 -- what stands in its sector is the image's inode
@@ -76,74 +77,73 @@ bodies_first image bodies none = record {
   each = λ i lt dir. let zero : i ≡ 0 = omega arith in
       let no : is_directory ((frame image).head 0) ≡ false = ap (λ t. t == 4) (no_type image 0 none) in
       let clash : true ≡ false = sym (subst (λ j. is_directory ((frame image).head j) ≡ true) zero dir) ∙ no in absurd (cc);
+  summed = summaries_first image bodies.summaries.items;
 }
 
 pub tables_first : (types : List ℕ) (bodies : Bodies) → types ≡ 0 ∷ [] → IsFirst bodies → HasTables 1 types bodies
 tables_first types bodies one is = record {
   long = ap length one;
   none = ap (λ l. get_or l 0 0) one;
-  slots = ap length is.slots;
-  starts = ap length is.starts;
+  summaries = is.summaries;
+  slots = is.slots;
+  starts = is.starts;
   blocks = let e : length bodies.blocks.items ≡ 0 = ap length is.blocks in omega arith;
 }
 
 -- one inode more
-module _ (n : ℕ) (types types' : List ℕ) (old new : Bodies) (inode : Inode) (places : List ℕ) (type : ℕ) (was : HasTables n types old) (some : 1 ≤ n) (pushed : types' ≡ types ++ type ∷ [])
-    (slots : new.slots.items ≡ old.slots.items ++ slots_kept inode ∷ []) (starts : new.starts.items ≡ old.starts.items ++ length old.blocks.items ∷ [])
-    (blocks : new.blocks.items ≡ old.blocks.items ++ map (body_at places) (range_with_len 0 ((slots_kept inode + 31) / 32))) where
-  few-kept : slots_kept inode ≤ 4416
-  few-kept = ⊎_elim
-      (λ (is : (inode.mode / 4096 == 4) ≡ true). let e : slots_kept inode ≡ slots_in_size inode.size = ap (λ b. cond b (slots_in_size inode.size) 0) is in omega arith)
-      (λ (is : (inode.mode / 4096 == 4) ≡ false). let e : slots_kept inode ≡ 0 = ap (λ b. cond b (slots_in_size inode.size) 0) is in omega arith)
-      (cases_Bool (inode.mode / 4096 == 4))
-
-  longer : length new.blocks.items ≡ length old.blocks.items + (slots_kept inode + 31) / 32
-  longer = ap length blocks ∙ length-append old.blocks.items (map (body_at places) (range_with_len 0 ((slots_kept inode + 31) / 32)))
-      ∙ ap (λ m. length old.blocks.items + m) (length-map-range_with_len (body_at places) 0 ((slots_kept inode + 31) / 32))
-
+module _ (n : ℕ) (types types' : List ℕ) (old new : Bodies) (type count : ℕ) (at : ℕ → ℕ) (summary : Summary) (was : HasTables n types old) (some : 1 ≤ n) (pushed : types' ≡ types ++ type ∷ [])
+    (next : IsNext old new count at summary) where
   pub tables_more : HasTables (n + 1) types' new
   tables_more = record {
     long = ap length pushed ∙ length_push types type ∙ ap (λ m. m + 1) was.long;
     none = let long = was.long in ap (λ l. get_or l 0 0) pushed ∙ get_or_append_left types (type ∷ []) 0 0 (omega arith) ∙ was.none;
-    slots = ap length slots ∙ length_push old.slots.items (slots_kept inode) ∙ ap (λ m. m + 1) was.slots;
-    starts = ap length starts ∙ length_push old.starts.items (length old.blocks.items) ∙ ap (λ m. m + 1) was.starts;
-    blocks = let few = few-kept in let long = longer in let before = was.blocks in omega arith;
+    summaries = ap length next.summaries ∙ length_push old.summaries.items summary ∙ ap (λ m. m + 1) was.summaries;
+    slots = ap length next.slots ∙ length_push old.slots.items count ∙ ap (λ m. m + 1) was.slots;
+    starts = next.starts ∙ ap (λ m. m + 1) was.starts;
+    blocks = next.few;
   }
 
-  -- a directory that was there
-  body_before : (image : Image) (i : ℕ) → i < n → HasBody image old i → HasBody image new i
-  body_before image i lt has =
-      let long = was.slots in let wide = was.starts in let within = has.within in let more = longer in
-      let start : get_or new.starts.items i 0 ≡ get_or old.starts.items i 0 = ap (λ l. get_or l i 0) starts ∙ get_or_append_left old.starts.items (length old.blocks.items ∷ []) 0 i (omega arith) in
-      record {
-        slots = ap (λ l. get_or l i 0) slots ∙ get_or_append_left old.slots.items (slots_kept inode ∷ []) 0 i (omega arith) ∙ has.slots;
-        within = omega arith;
-        blocks = λ k below. (λ z. get_or (blocks z) (start z + k) 0) ∙ get_or_append_left old.blocks.items _ 0 (get_or old.starts.items i 0 + k) (omega arith) ∙ has.blocks k below;
+  module _ (image : Image) where
+    -- a directory that was there
+    body_before : (i : ℕ) → i < n → HasBody image old i → HasBody image new i
+    body_before i lt has =
+        let long = was.slots in let wide = was.starts in let longer = next.longer in
+        let start : start_kept new i ≡ start_kept old i = next.starts_before i (omega arith) in
+        record {
+          slots = ap (λ l. get_or l i 0) next.slots ∙ get_or_append_left old.slots.items (count ∷ []) 0 i (omega arith) ∙ has.slots;
+          within = λ kept. let within = has.within (λ e. kept (start ∙ e)) in omega arith;
+          blocks = λ kept k below.
+              let within = has.within (λ e. kept (start ∙ e)) in
+              ap (λ s. get_or new.blocks.items (s + k) 0) start ∙ next.blocks_before (start_kept old i + k) (omega arith) ∙ has.blocks (λ e. kept (start ∙ e)) k below;
+        }
+
+    -- this one, if it is a directory
+    module _ (here : is_directory ((frame image).head n) ≡ true → (count ≡ slots_in_size ((frame image).head n).size) × ((k : ℕ) → k < 138 → at k ≡ (frame image).address n (Body k))) where
+      body_here : is_directory ((frame image).head n) ≡ true → HasBody image new n
+      body_here dir =
+          let long = was.slots in let wide = was.starts in
+          let kept = (here dir).0 in
+          record {
+            slots = ap (λ l. get_or l n 0) next.slots ∙ get_or_push old.slots.items count 0 n (omega arith) ∙ kept;
+            within = λ there. let within = next.within (λ e. there (ap (start_kept new) (sym wide) ∙ e)) in
+                subst (λ m. start_kept new m + (slots_in_size ((frame image).head n).size + 31) / 32 ≤ length new.blocks.items) wide (subst (λ m. start_kept new (length old.starts.items) + (m + 31) / 32 ≤ length new.blocks.items) kept within);
+            blocks = λ there k below.
+                let few : k < 138 = omega arith in
+                ap (λ m. block_kept new m k) (sym wide) ∙ next.here (λ e. there (ap (start_kept new) (sym wide) ∙ e)) k (omega arith) ∙ (here dir).1 k few;
+          }
+
+      pub bodies_more : ((((frame image).head n).is_used) ≡ true → summary ≡ summary_at (frame image) n) → AreBodies image old n → AreBodies image new (n + 1)
+      bodies_more sums had = record {
+        each = λ i lt dir. ⊎_elim
+            (λ (before : i < n). body_before i before (had.each i before dir))
+            (λ (ge : n ≤ i). let same : i ≡ n = omega arith in subst (λ j. HasBody image new j) (sym same) (body_here (subst (λ j. is_directory ((frame image).head j) ≡ true) same dir)))
+            (cases_lt i n);
+        summed = summaries_more (frame image) old.summaries.items new.summaries.items summary n was.summaries next.summaries sums had.summed;
       }
 
-  -- this one, if it is a directory
-  body_here : (image : Image) → head_of inode ≡ (frame image).head n → ((k : ℕ) → k < 138 → body_at places k ≡ (frame image).address n (Body k)) → is_directory ((frame image).head n) ≡ true → HasBody image new n
-  body_here image is at dir =
-      let long = was.slots in let wide = was.starts in let more = longer in
-      let size : inode.size ≡ ((frame image).head n).size = ap (λ (h : Head). h.size) is in
-      let type-is : (inode.mode / 4096 == 4) ≡ true = ap is_directory is ∙ dir in
-      let kept : slots_kept inode ≡ slots_in_size ((frame image).head n).size = ap (λ b. cond b (slots_in_size inode.size) 0) type-is ∙ ap slots_in_size size in
-      let start : get_or new.starts.items n 0 ≡ length old.blocks.items = ap (λ l. get_or l n 0) starts ∙ get_or_push old.starts.items (length old.blocks.items) 0 n (omega arith) in
-      record {
-        slots = ap (λ l. get_or l n 0) slots ∙ get_or_push old.slots.items (slots_kept inode) 0 n (omega arith) ∙ kept;
-        within = omega arith;
-        blocks = λ k below.
-            let few : k < 138 = omega arith in
-            (λ z. get_or (blocks z) (start z + k) 0)
-            ∙ get_or-append-add old.blocks.items (map (body_at places) (range_with_len 0 ((slots_kept inode + 31) / 32))) k 0
-            ∙ get_or-map-range_with_len (body_at places) 0 ((slots_kept inode + 31) / 32) k k 0 (omega arith) (omega arith)
-            ∙ at k few;
-      }
-
-  pub bodies_more : (image : Image) → head_of inode ≡ (frame image).head n → ((k : ℕ) → k < 138 → body_at places k ≡ (frame image).address n (Body k)) → AreBodies image old n → AreBodies image new (n + 1)
-  bodies_more image is at had = record {
-    each = λ i lt dir. ⊎_elim
-        (λ (before : i < n). body_before image i before (had.each i before dir))
-        (λ (ge : n ≤ i). let same : i ≡ n = omega arith in subst (λ j. HasBody image new j) (sym same) (body_here image is at (subst (λ j. is_directory ((frame image).head j) ≡ true) same dir)))
-        (cases_lt i n);
-  }
+-- what is kept of a directory
+pub kept_here : (f : Frame) (i : ℕ) (inode : Inode) → head_of inode ≡ f.head i → is_directory (f.head i) ≡ true → slots_kept inode ≡ slots_in_size (f.head i).size
+kept_here f i inode is dir =
+    let size : inode.size ≡ (f.head i).size = ap (λ (h : Head). h.size) is in
+    let type-is : (inode.mode / 4096 == 4) ≡ true = ap is_directory is ∙ dir in
+    ap (λ b. cond b (slots_in_size inode.size) 0) type-is ∙ ap slots_in_size size

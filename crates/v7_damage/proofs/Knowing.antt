@@ -6,6 +6,7 @@ use Rattle.stable.specs.Store.{Image}
 use Rattle.v7_map.specs.Frame.{Frame, frame}
 use Rattle.v7_map.specs.Tree.{Tree, tree, is_slot_of, links, seen_in}
 use Rattle.v7_map.specs.Damage.{Sizes, damage, tests}
+use Rattle.v7_map.proofs.AnyFrame.{frame-IsFrame}
 use Rattle.v7_damage.specs.declared.damage.RepairFault.{RepairFault}
 use Rattle.v7_damage.specs.declared.damage.RepairFault.TheVariants.{Damaged, Failed, NoMemory}
 use Rattle.v7_damage.specs.declared.listed.Listed.{Listed}
@@ -58,12 +59,13 @@ module _ (image : Image) (listed : Listed) (is : IsListed image listed) (none : 
 
   pub known-by : (names : Names) → length names.counts.items ≡ length listed.types.items → AreNames image (length listed.types.items) names
       → first_failing f (tests_of_directories (tree f) 1 (length listed.types.items - 1)) ≡ None
-      → IsUndamaged image (record { super_block = listed.super_block; types = listed.types; walked = names.walked; counts = names.counts })
+      → IsUndamaged image (record { super_block = listed.super_block; types = listed.types; walked = names.walked; counts = names.counts; summaries = listed.bodies.summaries })
   known-by names long are passes = record {
     undamaged = none-of image (rest ∙ passes);
     super_is = is.super_is;
     count = is.count;
     types_are = listed-types;
     walked_are = are.walked;
+    summaries_are = λ i used. let r = (frame-IsFrame image).numbers i used in let high = r.1 in is.bodies_are.summed.each i (omega arith) used;
     counts_are = λ i low lt. are.counted.each i low lt ∙ ap (λ n. count_by (is_slot_of i) (slots_until (tree f) 0 n 0)) is.count ∙ links-are (tree f) i;
   }

@@ -4,6 +4,8 @@ pub mod InodeTests
 pub mod FrameInodes
 pub mod SlotSectors
 pub mod BodyPlaces
+pub mod Ranges
+pub mod Summing
 pub mod ReadSlots
 pub mod Walking
 pub mod WalkSteps
@@ -17,4 +19,5 @@ pub mod Noting
 pub mod Deciding
 pub mod Knowing
 mod Modes
+mod Keeping
 mod FreeInodes

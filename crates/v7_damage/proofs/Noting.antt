@@ -1,10 +1,10 @@
 -- Directory by directory through the second reading.
-use Rattle.std.proofs.Common.{◌≡◌, ℕ, ◌+◌, ◌<◌, ◌≤◌, Bool, true, false, List, length, sym, ap, subst, ◌∙◌, arith, ⊎_elim, Some, None}
+use Rattle.std.proofs.Common.{◌≡◌, ℕ, ◌+◌, ◌/◌, ◌<◌, ◌≤◌, Bool, true, false, List, length, sym, ap, subst, ◌∙◌, arith, ⊎_elim, Some, None}
 use Rattle.std.specs.Prelude.{is_some, replicate}
 use Rattle.std.proofs.lemmas.Bool.{cases_lt}
 use Rattle.std.proofs.lemmas.List.{length-replicate}
 use Rattle.stable.specs.Store.{Image}
-use Rattle.v7_map.specs.Frame.{Frame, frame}
+use Rattle.v7_map.specs.Frame.{Frame, Body, frame}
 use Rattle.v7_map.specs.Tree.{Tree, tree, is_walked}
 use Rattle.v7_map.proofs.Walks.{walked_reached}
 use Rattle.v7_map.proofs.Used.{walked_is_dir}
@@ -43,7 +43,7 @@ module _ (f : Frame) (d : ℕ) where
   }
 
   wrong_more : (wrong : WrongSlot) → IsWrong f d wrong → IsWrong f (d + 1) wrong
-  wrong_more wrong is = record { some = is.some; below = let lt = is.below in omega arith; walked = is.walked; before = is.before; inside = is.inside; fails = is.fails }
+  wrong_more wrong is = record { some = is.some; below = let lt = is.below in omega arith; walked = is.walked; before = is.before; inside = is.inside; stands = is.stands; fails = is.fails }
 
   module _ (types : List ℕ) (some : 1 ≤ d) where
     -- a slot was wrong before
@@ -64,14 +64,14 @@ module _ (f : Frame) (d : ℕ) where
     }
 
     -- a slot is wrong
-    pub tested_wrong : (old new : Kept) (k : ℕ) → old.wrong ≡ None → new.wrong ≡ Some (record { ino = d; index = k }) → is_walked (tree f) d ≡ true → HasTested f types old d → k < length (f.slots d)
+    pub tested_wrong : (old new : Kept) (k s : ℕ) → old.wrong ≡ None → new.wrong ≡ Some (record { ino = d; index = k; sector = s }) → s ≡ f.address d (Body (k / 32)) → is_walked (tree f) d ≡ true → HasTested f types old d → k < length (f.slots d)
         → first_failing f (tests_of_slots (tree f) d 0 (length (f.slots d))) ≡ Some (Entry d k) → HasTested f types new (d + 1)
-    tested_wrong old new k none is walks was inside fails =
-        let here : IsWrong f (d + 1) (record { ino = d; index = k }) = record { some = some; below = omega arith; walked = walks; before = was.passed none; inside = inside; fails = fails } in
+    tested_wrong old new k s none is stands walks was inside fails =
+        let here : IsWrong f (d + 1) (record { ino = d; index = k; sector = s }) = record { some = some; below = omega arith; walked = walks; before = was.passed none; inside = inside; stands = stands; fails = fails } in
         record {
-          passed = λ e. let clash : Some (record { ino = d; index = k }) ≡ None = sym is ∙ e in absurd (cc);
-          counted = λ e. let clash : Some (record { ino = d; index = k }) ≡ None = sym is ∙ e in absurd (cc);
-          failed = λ wrong e. let some' : Some (record { ino = d; index = k }) ≡ Some wrong = sym is ∙ e in let same : record { ino = d; index = k } ≡ wrong = cc in subst (IsWrong f (d + 1)) same here;
+          passed = λ e. let clash : Some (record { ino = d; index = k; sector = s }) ≡ None = sym is ∙ e in absurd (cc);
+          counted = λ e. let clash : Some (record { ino = d; index = k; sector = s }) ≡ None = sym is ∙ e in absurd (cc);
+          failed = λ wrong e. let some' : Some (record { ino = d; index = k; sector = s }) ≡ Some wrong = sym is ∙ e in let same : record { ino = d; index = k; sector = s } ≡ wrong = cc in subst (IsWrong f (d + 1)) same here;
         }
 
     -- it isn't walked

@@ -16,7 +16,8 @@ use Rattle.v7_map.proofs.Members.{In, In-flat_map, In-range, find_none}
 use Rattle.v7_map.proofs.SuperBlock.{sizes-passed}
 use Rattle.v7_damage.specs.Marks.{mark_at}
 use Rattle.v7_damage.specs.declared.bodies.Bodies.{Bodies}
-use Rattle.v7_damage.specs.Stored.{place_of_body, AreBodies, HasBody, CanRead}
+use Rattle.v7_damage.specs.Stored.{place_of_body}
+use Rattle.v7_damage.specs.Tables.{AreBodies, HasBody, CanRead}
 use Rattle.v7_damage.specs.Walk.{CanWalk}
 use Rattle.v7_damage.specs.Names.{AreTypes, HasKept, slots_until, tests_of_directories}
 use Rattle.v7_damage.specs.Tests.{first_failing, tests_of, tests_of_inodes, place_tests}

@@ -1,5 +1,7 @@
 pub mod Marks
 pub mod Stored
+pub mod Summaries
+pub mod Tables
 pub mod Tests
 pub mod Slots
 pub mod Walk

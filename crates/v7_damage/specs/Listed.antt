@@ -6,7 +6,7 @@ use Rattle.v7_map.specs.Image.{sector_at, inode_sector, inodes_before}
 use Rattle.v7_map.specs.Frame.{frame}
 use Rattle.v7_map.specs.Tree.{tree}
 use Rattle.v7_map.specs.Damage.{has_sizes}
-use Rattle.v7_damage.specs.Stored.{AreBodies, HasTables}
+use Rattle.v7_damage.specs.Tables.{AreBodies, HasTables}
 use Rattle.v7_damage.specs.declared.listed.Listed.{Listed}
 
 -- the super-block, the types of the inodes, and where the slots of directories stand

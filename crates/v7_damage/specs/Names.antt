@@ -1,16 +1,16 @@
 -- The tests of directories, and what is kept of the slots before.
-use Rattle.std.specs.Prelude.{◌≡◌, ◌<◌, ◌≤◌, ℕ, Bool, true, false, List, [], ◌∷◌, get_or, length, nat_lt, ◌==◌, ◌&&◌, if◌then◌else◌, not, count_by, Some, None}
+use Rattle.std.specs.Prelude.{◌≡◌, ◌<◌, ◌≤◌, ◌/◌, ℕ, Bool, true, false, List, [], ◌∷◌, get_or, length, nat_lt, ◌==◌, ◌&&◌, if◌then◌else◌, not, count_by, Some, None}
 use Rattle.std.specs.List.{range_with_len, list_any, flat_map}
 use Rattle.files_model.specs.Files.{Slot}
 use Rattle.stable.specs.Store.{Image}
-use Rattle.v7_map.specs.Frame.{Frame, frame, is_directory}
+use Rattle.v7_map.specs.Frame.{Frame, Body, frame, is_directory}
 use Rattle.v7_map.specs.Weak.{slot_at, parent}
 use Rattle.v7_map.specs.Tree.{Tree, tree, is_slot_of, is_walked, is_child}
 use Rattle.v7_map.specs.Damage.{Test, Entry, directory_tests, slot_tests, slots_before, is_some_slot, has_entry, is_entry}
 use Rattle.v7_damage.specs.Marks.{mark_at}
 use Rattle.v7_damage.specs.Tests.{first_failing}
 use Rattle.v7_damage.specs.Walk.{is_dir_in, AreWalked}
-use Rattle.v7_damage.specs.Stored.{CanRead}
+use Rattle.v7_damage.specs.Tables.{CanRead}
 use Rattle.v7_damage.specs.declared.bodies.Bodies.{Bodies}
 use Rattle.v7_damage.specs.declared.names.Kept.{Kept}
 use Rattle.v7_damage.specs.declared.names.WrongSlot.{WrongSlot}
@@ -69,6 +69,7 @@ pub record IsWrong (f : Frame) (d : ℕ) (wrong : WrongSlot) : Type 0 where
   pub walked : is_walked (tree f) wrong.ino ≡ true
   pub before : SlotsPass f wrong.ino
   pub inside : wrong.index < length (f.slots wrong.ino)
+  pub stands : wrong.sector ≡ f.address wrong.ino (Body (wrong.index / 32))
   pub fails : first_failing f (tests_of_slots (tree f) wrong.ino 0 (length (f.slots wrong.ino))) ≡ Some (Entry wrong.ino wrong.index)
 
 -- the slots of the directories below d were tested: none was wrong and all are counted, or the first wrong one is kept

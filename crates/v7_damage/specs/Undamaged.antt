@@ -8,6 +8,7 @@ use Rattle.v7_map.specs.Tree.{tree, is_walked, links}
 use Rattle.v7_map.specs.Damage.{damage, has_sizes}
 use Rattle.v7_damage.specs.Marks.{mark_at}
 use Rattle.v7_damage.specs.Names.{AreTypes, AreCounts, slots_until}
+use Rattle.v7_damage.specs.Summaries.{no_summary, summary_at}
 use Rattle.v7_damage.specs.Tests.{told}
 use Rattle.v7_damage.specs.declared.damage.RepairFault.{RepairFault}
 use Rattle.v7_damage.specs.declared.damage.RepairFault.TheVariants.{Damaged, Failed, NoMemory}
@@ -24,13 +25,14 @@ pub record HasNames (n : ℕ) (names : Names) : Type 0 where
   pub walked : length names.walked ≡ n
   pub counts : length names.counts.items ≡ n
 
--- no test fails, and this is the super-block, these are the types, the walked directories, and the links that slots of these make
+-- no test fails, and this is the super-block, these are the types, the walked directories, the links that slots of these make, and the summaries of the used inodes
 pub record IsUndamaged (image : Image) (known : Undamaged) : Type 0 where
   pub undamaged : damage (frame image) ≡ None
   pub super_is : known.super_block ≡ super_of (sector_at image 1)
   pub count : length known.types.items ≡ (tree (frame image)).inodes + 1
   pub types_are : AreTypes (frame image) known.types.items
   pub walked_are : (i : ℕ) → mark_at known.walked i ≡ is_walked (tree (frame image)) i
+  pub summaries_are : (i : ℕ) → ((frame image).head i).is_used ≡ true → get_or known.summaries.items i no_summary ≡ summary_at (frame image) i
   pub counts_are : (i : ℕ) → 1 ≤ i → i < length known.counts.items → get_or known.counts.items i 0 ≡ links (tree (frame image)) i
 
 -- the damage is that of the first test that fails; want of memory and failed devices say nothing
@@ -50,6 +52,7 @@ pub record HasEntries (sectors : ℕ) (known : Undamaged) : Type 0 where
   pub few : length known.types.items ≤ 65536
   pub walked : length known.walked ≡ length known.types.items
   pub counts : length known.counts.items ≡ length known.types.items
+  pub summaries : length known.summaries.items ≡ length known.types.items
   pub stand : (i : ℕ) → i < length known.types.items → inode_sector i < sectors
   pub sizes : has_sizes known.super_block.mark known.super_block.s_isize known.super_block.s_fsize sectors ≡ true
   pub all : length known.types.items ≡ inodes_before known.super_block.s_isize + 1

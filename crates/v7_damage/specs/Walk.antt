@@ -5,7 +5,7 @@ use Rattle.v7_map.specs.Frame.{frame, is_directory}
 use Rattle.v7_map.specs.Tree.{Tree, is_walked}
 use Rattle.v7_map.specs.Weak.{parent}
 use Rattle.v7_damage.specs.Marks.{mark_at, is_among}
-use Rattle.v7_damage.specs.Stored.{CanRead}
+use Rattle.v7_damage.specs.Tables.{CanRead}
 use Rattle.v7_damage.specs.declared.bodies.Bodies.{Bodies}
 
 -- the type at a number is that of a directory

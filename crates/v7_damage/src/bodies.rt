@@ -1,12 +1,20 @@
-// Where the slots of directories stand.
+// What is kept of inodes, and where the slots of directories stand.
 
-ghost use Rattle.std.specs.Prelude.{◌≡◌, ◌<◌, ◌≤◌, ◌+◌, ◌/◌, ◌^◌, ◌++◌, ◌∷◌, [], length, map, OnOk, IfOk};
-ghost use Rattle.std.specs.List.{range_with_len};
-ghost use Rattle.v7_damage.specs.Stored.{IsFirst, body_at, slots_kept, block_kept};
+ghost use Rattle.std.specs.Prelude.{◌≡◌, ◌<◌, ◌≤◌, ◌+◌, ◌/◌, ◌^◌, ℕ, length, map, OnOk, IfOk};
+ghost use Rattle.stable.specs.Counts.{HasCause};
+ghost use Rattle.stable.specs.Looked.{Looked};
+ghost use Rattle.v7_map.specs.Image.{inode_sector};
+ghost use Rattle.v7_map.specs.Frame.{frame};
+ghost use Rattle.v7_damage.specs.Stored.{body_at};
+ghost use Rattle.v7_damage.specs.Tables.{IsNext, AreSectors, CanRead, IsFirst, block_by, slots_kept};
+ghost use Rattle.v7_damage.specs.Summaries.{no_summary, summary_by};
 
-use stable::NoMemory;
+use crate::reader::InodeReader;
+use crate::summary::{Summary, no_summary, summary_of};
+use stable::{Failed, NoMemory, Stable};
 use std::alloc::Global;
 use v7_layout::Inode;
+use v7_map::read_places;
 
 /// The type of a directory in the four highest bits of a mode.
 const DIRECTORY: u16 = 4;
@@ -14,30 +22,41 @@ const DIRECTORY: u16 = 4;
 /// The greatest size of a file in bytes, 138 sectors.
 const SIZE_LIMIT: u32 = 70_656;
 
-/// Where the slots of directories stand, by i-number, so that they are read again without their inodes and indirect blocks. It takes six bytes an
-/// inode and four a sector of a directory.
+/// How many sectors of directories are kept at most.
+const MOST_KEPT: usize = 200_000;
+
+/// Where the blocks of a directory begin that aren't kept.
+const NOT_KEPT: u32 = 4_294_967_295;
+
+/// A summary of each inode, and where the slots of directories stand, by i-number, so that they are read again without their inodes and blocks of
+/// addresses. It takes ten bytes an inode and four a sector of a directory, of 200,000 at most: the directories that have no room are found by
+/// their inodes again.
 #[derive(Drop)]
 pub(crate) struct Bodies {
+    pub(crate) summaries: Vec<Summary>,
     /// How many slots a directory has, 0 for what is none.
     pub(crate) slots: Vec<u16>,
-    /// Where its blocks begin in `blocks`.
+    /// Where its blocks begin in `blocks`, if they are kept.
     pub(crate) starts: Vec<u32>,
-    /// The blocks of the sectors of all directories.
+    /// The blocks of the sectors of directories.
     pub(crate) blocks: Vec<u32>,
 }
 
-/// The tables with room for so many inodes, and an entry for i-number 0, which no inode has.
-pub(crate) fn no_bodies(alloc: Global, room: usize) -> Result<Bodies, NoMemory>
+/// The tables with room for so many inodes of a volume of so many blocks, and an entry for i-number 0, which no inode has.
+pub(crate) fn no_bodies(alloc: Global, room: usize, blocks: u32) -> Result<Bodies, NoMemory>
     ensures { IfOk result IsFirst }
 {
+    let mut summaries = Vec::with_capacity(alloc, room)?;
     let mut slots = Vec::with_capacity(alloc, room)?;
     let mut starts = Vec::with_capacity(alloc, room)?;
+    summaries.push(no_summary())?;
     slots.push(0)?;
     starts.push(0)?;
     Ok(Bodies {
+        summaries,
         slots,
         starts,
-        blocks: Vec::new(alloc),
+        blocks: Vec::with_capacity(alloc, MOST_KEPT.min(blocks as usize))?,
     })
 }
 
@@ -68,15 +87,19 @@ pub(crate) fn keep_body(
     inode: &Inode,
     places: &[u32; 140],
 ) -> Result<(), NoMemory>
-    requires { length bodies.old.blocks.items < 2 ^ 32 }
-    ensures slots { OnOk result (bodies.new.slots.items ≡ bodies.old.slots.items ++ slots_kept inode.now ∷ []) }
-    ensures starts { OnOk result (bodies.new.starts.items ≡ bodies.old.starts.items ++ length bodies.old.blocks.items ∷ []) }
-    ensures blocks { OnOk result (bodies.new.blocks.items ≡ bodies.old.blocks.items ++ map (body_at places.now) (range_with_len 0 ((slots_kept inode.now + 31) / 32))) }
+    requires { length bodies.old.blocks.items ≤ 200000 }
+    ensures { OnOk result (IsNext bodies.old bodies.new (slots_kept inode.now) (body_at places.now) (summary_by inode.now places.now)) }
 {
     let count = slots_of(inode);
-    bodies.starts.push(bodies.blocks.len() as u32)?;
+    bodies.summaries.push(summary_of(inode, places))?;
     bodies.slots.push(count)?;
-    for index in 0..count.div_ceil(32) {
+    let sectors = count.div_ceil(32);
+    if bodies.blocks.len() + sectors as usize > MOST_KEPT {
+        bodies.starts.push(NOT_KEPT)?;
+        return Ok(());
+    }
+    bodies.starts.push(bodies.blocks.len() as u32)?;
+    for index in 0..sectors {
         bodies.blocks.push(body_block(places, index as usize))?;
     }
     Ok(())
@@ -84,25 +107,56 @@ pub(crate) fn keep_body(
 
 /// Puts a free inode at the end of the tables.
 pub(crate) fn keep_none(bodies: &mut Bodies) -> Result<(), NoMemory>
-    requires { length bodies.old.blocks.items < 2 ^ 32 }
-    ensures slots { OnOk result (bodies.new.slots.items ≡ bodies.old.slots.items ++ 0 ∷ []) }
-    ensures starts { OnOk result (bodies.new.starts.items ≡ bodies.old.starts.items ++ length bodies.old.blocks.items ∷ []) }
-    ensures blocks { bodies.new.blocks.items ≡ bodies.old.blocks.items }
+    requires { length bodies.old.blocks.items ≤ 200000 }
+    ensures { (at : ℕ → ℕ) → OnOk result (IsNext bodies.old bodies.new 0 at no_summary) }
 {
-    bodies.starts.push(bodies.blocks.len() as u32)?;
+    bodies.summaries.push(no_summary())?;
     bodies.slots.push(0)?;
+    bodies.starts.push(NOT_KEPT)?;
     Ok(())
 }
 
-/// The block of sector `index` of a directory, 0 where it has none.
-pub(crate) fn block_of(bodies: &Bodies, ino: usize, index: usize) -> u32
-    requires number { ino < length bodies.now.starts.items }
-    requires index { index < 2 ^ 60 }
-    ensures { result ≡ block_kept bodies.now ino index }
+/// Where the sectors of a directory stand.
+#[derive(Clone, Copy)]
+pub(crate) enum Sectors {
+    /// In the table of blocks, from here on.
+    InTable(u32),
+    /// At these places of its inode.
+    Read([u32; 140]),
+}
+
+/// Finds where the sectors of a directory stand. Its inode and its block of addresses are read again where they aren't kept. Nothing is changed.
+pub(crate) fn find_sectors<S: Stable>(
+    store: &mut S,
+    bodies: &Bodies,
+    ino: u16,
+) -> Result<Sectors, Failed>
+    requires stands { inode_sector ino < S.sector_count store.old }
+    requires starts { ino < length bodies.now.starts.items }
+    ensures sectors { S.tells → CanRead (S.image store.old) bodies.now ino → IfOk result (λ sectors. AreSectors (frame (S.image store.old)) bodies.now sectors ino) }
+    ensures cause { HasCause (S.faults store.old) (S.faults store.new) result }
+    ensures looked { Looked S.Stable store.old store.new }
 {
-    let start = bodies.starts[ino] as usize;
-    match bodies.blocks.get(start + index) {
-        Some(block) => *block,
-        None => 0,
+    let start = bodies.starts[ino as usize];
+    if start != NOT_KEPT {
+        return Ok(Sectors::InTable(start));
+    }
+    let mut reader = InodeReader::new();
+    let inode = reader.read(store, ino as u32)?;
+    let places = read_places(store, &inode)?;
+    Ok(Sectors::Read(places))
+}
+
+/// The block of sector `index` of a directory, 0 where it has none.
+pub(crate) fn block_of(bodies: &Bodies, sectors: &Sectors, index: usize) -> u32
+    requires { index < 2 ^ 60 }
+    ensures { index < 138 → result ≡ block_by bodies.now sectors.now index }
+{
+    match sectors {
+        Sectors::InTable(start) => match bodies.blocks.get(*start as usize + index) {
+            Some(block) => *block,
+            None => 0,
+        },
+        Sectors::Read(places) => body_block(places, index),
     }
 }

@@ -5,12 +5,11 @@ ghost use Rattle.stable.specs.Store.{Image};
 ghost use Rattle.v7_map.specs.Frame.{frame};
 ghost use Rattle.v7_map.specs.Tree.{Tree, tree, is_walked};
 ghost use Rattle.v7_damage.specs.Names.{AreHeld, ComesBefore, HasNoted, PastWrong, is_held, tests_of_directory, tests_of_directories};
-ghost use Rattle.v7_damage.specs.Stored.{HasTables};
+ghost use Rattle.v7_damage.specs.Tables.{HasTables};
 ghost use Rattle.v7_damage.specs.Tests.{IsTold};
 ghost use Rattle.v7_damage.specs.Walk.{AreWalked};
 ghost use Rattle.v7_damage.specs.declared.damage.RepairFault.TheVariants as fault;
 
-use crate::bodies::block_of;
 use crate::damage::{Damage, RepairFault};
 use crate::listed::Listed;
 use crate::marks::Marks;
@@ -41,7 +40,6 @@ fn test_directory(
 ) -> Result<(), RepairFault>
     requires some { 1 ≤ ino }
     requires within { ino < length listed.now.types.items }
-    requires starts { length listed.now.bodies.starts.items ≡ length listed.now.types.items }
     requires found { length walks.now.found ≡ length listed.now.types.items }
     requires ups { length walks.now.ups.items ≡ length listed.now.types.items }
     ensures told { (image : Image) → HasNoted image listed.now.types.items listed.now.bodies walks.now noted.now.parents noted.now.kept (length listed.now.types.items)
@@ -67,7 +65,7 @@ fn test_directory(
             if wrong.ino != ino {
                 return Ok(());
             }
-            let sector = block_of(&listed.bodies, ino as usize, wrong.index / 32);
+            let sector = wrong.sector;
             let kind = Damage::Slot;
             Err(RepairFault::Damaged { sector, kind })
         }
@@ -82,7 +80,6 @@ pub(crate) fn test_directories(
 ) -> Result<(), RepairFault>
     requires some { 1 ≤ length listed.now.types.items }
     requires few { length listed.now.types.items ≤ 65536 }
-    requires starts { length listed.now.bodies.starts.items ≡ length listed.now.types.items }
     requires found { length walks.now.found ≡ length listed.now.types.items }
     requires ups { length walks.now.ups.items ≡ length listed.now.types.items }
     ensures told { (image : Image) → HasNoted image listed.now.types.items listed.now.bodies walks.now noted.now.parents noted.now.kept (length listed.now.types.items)

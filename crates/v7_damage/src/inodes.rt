@@ -8,7 +8,8 @@ ghost use Rattle.v7_map.specs.Image.{inode_sector};
 ghost use Rattle.v7_map.specs.Frame.{Frame, frame, head_of};
 ghost use Rattle.v7_map.specs.Damage.{has_kind, has_length};
 ghost use Rattle.v7_damage.specs.Marks.{AreSeen};
-ghost use Rattle.v7_damage.specs.Stored.{AreBodies, HasTables, IsFirst, Keeps};
+ghost use Rattle.v7_damage.specs.Stored.{Keeps};
+ghost use Rattle.v7_damage.specs.Tables.{AreBodies, HasTables, IsFirst};
 ghost use Rattle.v7_damage.specs.Tests.{HasInode, HasNumbers, IsTold, first_failing, kind_of_test, tests_of, tests_of_inodes, earlier_blocks};
 ghost use Rattle.v7_damage.specs.declared.damage.RepairFault.TheVariants as fault;
 
@@ -90,7 +91,7 @@ fn test_inode(
     test_places(inode, places, isize, fsize, seen)
 }
 
-// Tests one inode, and puts its type, and where its slots stand, at the end of the tables. Of a free one the mode alone is read.
+// Tests one inode, and puts its type, its summary, and where its slots stand, at the end of the tables. Of a free one the mode alone is read.
 // Nothing is changed.
 fn test_next<S: Stable>(
     store: &mut S,
@@ -146,8 +147,8 @@ fn test_next<S: Stable>(
     Ok(())
 }
 
-/// Tests the inodes in rising number, and puts the type of each, and where the slots of directories stand, at the end of tables that have an
-/// entry for i-number 0. Nothing is changed.
+/// Tests the inodes in rising number, and puts the type and the summary of each, and where the slots of directories stand, at the end of tables
+/// that have an entry for i-number 0. Nothing is changed.
 pub(crate) fn test_inodes<S: Stable>(
     store: &mut S,
     isize: u32,

@@ -13,13 +13,16 @@ mod parents;
 mod places;
 mod reader;
 mod slots;
+mod summary;
 mod tested;
+mod tidy;
 mod walk;
 
 pub use bodies::body_block;
 pub use damage::{Damage, RepairFault};
 pub use marks::Marks;
 pub use reader::InodeReader;
+pub use summary::Summary;
 pub use tested::{Undamaged, find_damage};
 
 #[cfg(test)]

@@ -21,7 +21,8 @@ use std::alloc::Global;
 use v7_layout::{Record, Super};
 use v7_map::{get_sector, has_sizes, inodes_of};
 
-/// The super-block, and by i-number the type of each inode and where the slots of directories stand. The entry at 0 is that of no inode.
+/// The super-block, and by i-number the type of each inode, its summary, and where the slots of directories stand. The entry at 0 is that of no
+/// inode.
 #[derive(Drop)]
 pub(crate) struct Listed {
     pub(crate) super_block: Super,
@@ -69,7 +70,7 @@ pub(crate) fn list_inodes<S: Stable>(alloc: Global, store: &mut S) -> Result<Lis
     let mut seen = Marks::new(alloc, fsize)?;
     let mut types = Vec::with_capacity(alloc, room)?;
     types.push(0)?;
-    let mut bodies = no_bodies(alloc, room)?;
+    let mut bodies = no_bodies(alloc, room, fsize)?;
     match test_inodes(
         store,
         isize,

@@ -9,7 +9,9 @@ ghost use Rattle.v7_map.specs.Damage.{Entry, is_only_child};
 ghost use Rattle.v7_damage.specs.Names.{AreTypes, AreNamed, HasKept, HasTested, slot_passes, slots_until, tests_of_slots};
 ghost use Rattle.v7_damage.specs.Tests.{first_failing};
 ghost use Rattle.v7_damage.specs.Slots.{seen_slot};
+ghost use Rattle.v7_damage.specs.Tables.{AreSectors};
 
+use crate::bodies::{Bodies, Sectors, block_of};
 use crate::marks::Marks;
 use v7_layout::Slot;
 
@@ -27,6 +29,8 @@ const MOST_LINKS: u16 = 65_535;
 pub(crate) struct WrongSlot {
     pub(crate) ino: u16,
     pub(crate) index: usize,
+    /// Where it stands.
+    pub(crate) sector: u32,
 }
 
 /// What is kept of the slots that passed their tests, and the first that failed.
@@ -124,11 +128,18 @@ fn test_slots(slots: &[Slot], types: &[u8], kept: &mut Kept) -> Option<usize>
 }
 
 /// Tests the slots of a walked directory, if no slot was wrong before. They are counted from then on, or the first wrong one is kept.
-pub(crate) fn keep_slots(slots: &[Slot], ino: u16, types: &[u8], kept: &mut Kept)
+pub(crate) fn keep_slots(
+    slots: &[Slot],
+    ino: u16,
+    bodies: &Bodies,
+    sectors: &Sectors,
+    types: &[u8],
+    kept: &mut Kept,
+)
     requires counts { length kept.old.counts.items ≡ length types.now }
     requires named { length kept.old.named ≡ length types.now }
     requires some { 1 ≤ ino }
-    ensures tested { (f : Frame) → map seen_slot slots.now ≡ f.slots ino → is_walked (tree f) ino ≡ true → HasTested f types.now kept.old ino → HasTested f types.now kept.new (ino + 1) }
+    ensures tested { (f : Frame) → map seen_slot slots.now ≡ f.slots ino → AreSectors f bodies.now sectors.now ino → is_walked (tree f) ino ≡ true → HasTested f types.now kept.old ino → HasTested f types.now kept.new (ino + 1) }
     ensures counts { length kept.new.counts.items ≡ length kept.old.counts.items }
     ensures named { length kept.new.named ≡ length kept.old.named }
 {
@@ -137,6 +148,9 @@ pub(crate) fn keep_slots(slots: &[Slot], ino: u16, types: &[u8], kept: &mut Kept
     }
     match test_slots(slots, types, kept) {
         None => {}
-        Some(index) => kept.wrong = Some(WrongSlot { ino, index }),
+        Some(index) => {
+            let sector = block_of(bodies, sectors, index / 32);
+            kept.wrong = Some(WrongSlot { ino, index, sector });
+        }
     }
 }

@@ -3,12 +3,13 @@
 ghost use Rattle.std.specs.Prelude.{◌≡◌, ◌<◌, ◌≤◌, ◌+◌, length, OnOk, IfOk, IsErrOf};
 ghost use Rattle.stable.specs.Counts.{Rose};
 ghost use Rattle.stable.specs.Looked.{Looked};
+ghost use Rattle.v7_map.specs.Image.{inode_sector};
 ghost use Rattle.v7_map.specs.Frame.{frame};
 ghost use Rattle.v7_map.specs.Tree.{tree};
 ghost use Rattle.v7_damage.specs.Listed.{HasList};
 ghost use Rattle.v7_damage.specs.Names.{AreTypes, HasNoted, HasRoom};
 ghost use Rattle.v7_damage.specs.Noted.{IsNothing};
-ghost use Rattle.v7_damage.specs.Stored.{HasTables};
+ghost use Rattle.v7_damage.specs.Tables.{HasTables};
 ghost use Rattle.v7_damage.specs.Tests.{NotDamaged};
 ghost use Rattle.v7_damage.specs.Walk.{AreWalked, CanWalk};
 ghost use Rattle.v7_damage.specs.declared.damage.RepairFault.TheVariants as fault;
@@ -40,6 +41,7 @@ fn note_directory<S: Stable>(
     requires tables { HasTables (length listed.now.types.items) listed.now.types.items listed.now.bodies }
     requires ups { length walks.now.ups.items ≡ length listed.now.types.items }
     requires room { HasRoom (length listed.now.types.items) parents.old kept.old }
+    requires stands { inode_sector ino < S.sector_count store.old }
     requires some { 1 ≤ ino }
     requires within { ino < length listed.now.types.items }
     ensures noted { S.tells → HasNoted (S.image store.old) listed.now.types.items listed.now.bodies walks.now parents.old kept.old ino
@@ -52,11 +54,11 @@ fn note_directory<S: Stable>(
     if !walks.found.has(ino as u32) {
         return Ok(());
     }
-    read_directory(store, &listed.bodies, ino, slots)?;
+    let sectors = read_directory(store, &listed.bodies, ino, slots)?;
     let first = slots.len().min(2);
     hold_named(&slots[first..], ino, &walks.ups, &mut parents.held);
     note_dots(ino, slots, &mut parents.dotted);
-    keep_slots(slots, ino, &listed.types, kept);
+    keep_slots(slots, ino, &listed.bodies, &sectors, &listed.types, kept);
     Ok(())
 }
 

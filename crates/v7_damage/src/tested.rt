@@ -17,6 +17,7 @@ use crate::directories::test_directories;
 use crate::listed::{Listed, list_inodes};
 use crate::marks::Marks;
 use crate::noted::note_directories;
+use crate::summary::Summary;
 use crate::walk::{Walks, walk};
 use stable::Stable;
 use std::alloc::Global;
@@ -89,10 +90,13 @@ pub struct Undamaged {
     pub walked: Marks,
     /// How many slots of walked directories name each inode.
     pub counts: Vec<u16>,
+    /// What is kept of each used inode.
+    pub summaries: Vec<Summary>,
 }
 
 /// Makes the tests of a volume in their order (docs/FORMATS.md, damage). `Damaged` tells the first that fails, by its sector and its kind, exactly
-/// where one does. It reads each sector of the i-list and each indirect block once, and each sector of a walked directory twice. Nothing is changed.
+/// where one does. It reads each sector of the i-list and each indirect block once, and each sector of a walked directory twice; where these are more
+/// than 200,000, the inodes and indirect blocks of the directories past them again before each of the two. Nothing is changed.
 pub fn find_damage<S: Stable>(alloc: Global, store: &mut S) -> Result<Undamaged, RepairFault>
     ensures tested { S.tells → IsTested (S.image store.old) result }
     ensures tables { IfOk result (HasEntries (S.sector_count store.old)) }
@@ -109,6 +113,7 @@ pub fn find_damage<S: Stable>(alloc: Global, store: &mut S) -> Result<Undamaged,
             types: listed.types,
             walked: names.walked,
             counts: names.counts,
+            summaries: listed.bodies.summaries,
         }),
         Err(fault) => Err(fault),
     }

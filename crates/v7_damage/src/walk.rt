@@ -1,15 +1,16 @@
 // The walk through the directories.
 
-ghost use Rattle.std.specs.Prelude.{◌≡◌, ◌≤◌, ℕ, length, map, take, get_or, ◌||◌, ◌&&◌, ◌==◌, OnOk, IfOk, IsErrOf};
+ghost use Rattle.std.specs.Prelude.{◌≡◌, ◌<◌, ◌≤◌, ℕ, length, map, take, get_or, ◌||◌, ◌&&◌, ◌==◌, OnOk, IfOk, IsErrOf};
 ghost use Rattle.stable.specs.Counts.{Rose};
 ghost use Rattle.stable.specs.Looked.{Looked};
+ghost use Rattle.v7_map.specs.Image.{inode_sector};
 ghost use Rattle.v7_map.specs.Frame.{frame};
 ghost use Rattle.v7_map.specs.Tree.{Tree, tree};
 ghost use Rattle.v7_map.specs.Weak.{parent};
 ghost use Rattle.v7_damage.specs.Marks.{mark_at};
 ghost use Rattle.v7_damage.specs.Slots.{names, seen_slot};
 ghost use Rattle.v7_damage.specs.Walk.{AreListed, AreWalked, CanWalk, is_dir_in};
-ghost use Rattle.v7_damage.specs.Stored.{HasTables};
+ghost use Rattle.v7_damage.specs.Tables.{HasTables};
 ghost use Rattle.v7_damage.specs.Tests.{NotDamaged};
 ghost use Rattle.v7_damage.specs.declared.damage.RepairFault.TheVariants as fault;
 
@@ -100,6 +101,7 @@ pub(crate) fn walk<S: Stable>(
 ) -> Result<Marks, RepairFault>
     requires tables { HasTables (length types.now) types.now bodies.now }
     requires few { length types.now ≤ 65536 }
+    requires stand { (i : ℕ) → i < length types.now → inode_sector i < S.sector_count store.old }
     requires ups { length ups.old.items ≡ length types.now }
     ensures walked { S.tells → CanWalk (S.image store.old) types.now bodies.now → IfOk result (λ found. AreWalked (tree (frame (S.image store.old))) found ups.new.items) }
     ensures ups_length { length ups.new.items ≡ length ups.old.items }
@@ -115,7 +117,7 @@ pub(crate) fn walk<S: Stable>(
     let mut next = 0;
     'walking: while next < list.len() {
         let ino = list[next];
-        read_directory(store, bodies, ino, &mut slots)?;
+        let _sectors = read_directory(store, bodies, ino, &mut slots)?;
         find_named(&slots, types, &mut found, &mut list)?;
         ups[ino as usize] = up_of(&slots);
         next += 1;

@@ -1,10 +1,10 @@
 -- What is counted by the tables is what the view has.
-use Rattle.std.proofs.Common.{◌≡◌, ℕ, zero, suc, ◌+◌, ◌-◌, ◌/◌, ◌<◌, ◌≤◌, Bool, true, false, cond, not, ◌&&◌, ◌||◌, ◌==◌, List, [], ◌∷◌, length, get_or, refl, sym, ap, ◌∙◌, arith, ltb, Some, None}
+use Rattle.std.proofs.Common.{◌≡◌, ℕ, suc, ◌+◌, ◌-◌, ◌/◌, ◌<◌, ◌≤◌, Bool, true, false, cond, not, ◌&&◌, ◌||◌, ◌==◌, length, get_or, refl, sym, ap, ◌∙◌, arith, ltb, Some, None}
 use Rattle.std.specs.Prelude.{count_by}
 use Rattle.std.specs.List.{range_with_len}
 use Rattle.std.specs.FinMap.{get}
 use Rattle.std.proofs.lemmas.Bool.{eqb-true}
-use Rattle.std.proofs.lemmas.List.Sums.{sum_by-append}
+use Rattle.v7_damage.proofs.Ranges.{count_next, count_same}
 use Rattle.files_model.specs.declared.attributes.Kind.{Kind}
 use Rattle.files_model.specs.declared.attributes.Kind.TheVariants.{Regular, Directory, Link}
 use Rattle.files_model.specs.Files.{Node}
@@ -21,27 +21,6 @@ use Rattle.v7_damage.specs.Tests.{IsNoDamage}
 use Rattle.v7_damage.specs.Undamaged.{IsFaultOf, IsUndamaged}
 use Rattle.v7_damage.specs.Marks.{mark_at}
 use Rattle.v7_inspect.specs.SeenNumbers.{is_of, same_kind, is_node_of, nodes_of, is_counted}
-
-count_cons : (p : ℕ → Bool) (x : ℕ) (xs : List ℕ) → count_by p (x ∷ xs) ≡ cond (p x) 1 0 + count_by p xs
-count_cons p x xs = sum_by-append (λ y. cond (p y) 1 0) (x ∷ []) xs ∙ (let e : 0 + cond (p x) 1 0 ≡ cond (p x) 1 0 = omega arith in ap (λ n. n + count_by p xs) e)
-
--- two tests that agree
-pub count_same : (p q : ℕ → Bool) (a n : ℕ) → ((i : ℕ) → a ≤ i → i < a + n → p i ≡ q i) → count_by p (range_with_len a n) ≡ count_by q (range_with_len a n)
-count_same p q a zero same = refl
-count_same p q a (suc n) same =
-    let here = same a (omega arith) (omega arith) in
-    let rest = count_same p q (a + 1) n (λ i low high. same i (omega arith) (omega arith)) in
-    count_cons p a (range_with_len (a + 1) n) ∙ (λ z. cond (here z) 1 0 + rest z) ∙ sym (count_cons q a (range_with_len (a + 1) n))
-
--- one number more
-pub count_next : (p : ℕ → Bool) (a n : ℕ) → count_by p (range_with_len a (suc n)) ≡ count_by p (range_with_len a n) + cond (p (a + n)) 1 0
-count_next p a zero = count_cons p a [] ∙ (let e : a ≡ a + 0 = omega arith in (λ z. cond (p (e z)) 1 0 + 0)) ∙ (let e : cond (p (a + 0)) 1 0 + 0 ≡ 0 + cond (p (a + 0)) 1 0 = omega arith in e)
-count_next p a (suc n) =
-    let rest = count_next p (a + 1) n in
-    let at : (a + 1) + n ≡ a + suc n = omega arith in
-    count_cons p a (range_with_len (a + 1) (suc n)) ∙ ap (λ m. cond (p a) 1 0 + m) (rest ∙ ap (λ i. count_by p (range_with_len (a + 1) n) + cond (p i) 1 0) at)
-    ∙ (let e : cond (p a) 1 0 + (count_by p (range_with_len (a + 1) n) + cond (p (a + suc n)) 1 0) ≡ (cond (p a) 1 0 + count_by p (range_with_len (a + 1) n)) + cond (p (a + suc n)) 1 0 = omega arith in e)
-    ∙ ap (λ m. m + cond (p (a + suc n)) 1 0) (sym (count_cons p a (range_with_len (a + 1) n)))
 
 pub counted_yes : (p : ℕ → Bool) (k : ℕ) → 1 ≤ k → p k ≡ true → count_by p (range_with_len 1 (k + 1 - 1)) ≡ count_by p (range_with_len 1 (k - 1)) + 1
 counted_yes p k low e =

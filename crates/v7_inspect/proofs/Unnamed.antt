@@ -1,19 +1,17 @@
 -- Inodes that are named, and those that aren't.
-use Rattle.std.proofs.Common.{◌≡◌, ◌≢◌, ℕ, Bool, true, false, cond, not, ◌&&◌, ◌||◌, ◌==◌, refl, sym, ap, ◌∙◌}
+use Rattle.std.proofs.Common.{◌≡◌, ℕ, Bool, true, false, cond, not, ◌&&◌, ◌||◌, ◌==◌, refl, sym, ap, ◌∙◌}
 use Rattle.stable.specs.Store.{Image}
-use Rattle.v7_layout.specs.declared.inode.Inode.{Inode}
-use Rattle.v7_map.specs.Image.{inode_at}
-use Rattle.v7_map.specs.Frame.{Body, Single, Frame, frame, head_of}
+use Rattle.v7_map.specs.Frame.{Body, Single, Frame, frame}
 use Rattle.v7_map.specs.Tree.{tree, links, is_named}
 use Rattle.v7_map.proofs.AnyFrame.{frame-IsFrame}
 use Rattle.v7_map.proofs.Undamaged.{weak_without_damage}
 use Rattle.v7_map.proofs.Used.{named_used}
 use Rattle.v7_damage.specs.declared.tested.Undamaged.{Undamaged}
 use Rattle.v7_damage.specs.Undamaged.{IsUndamaged}
-use Rattle.v7_damage.proofs.InodeTests.{free_by}
-use Rattle.v7_inspect.specs.Tidy.{is_tidy, is_strong_at}
-use Rattle.v7_inspect.specs.Usage.{needs, needs_block, is_needed_by, named_needs, sectors_in_size}
-use Rattle.v7_inspect.proofs.Usages.{or_none}
+use Rattle.v7_damage.specs.Summaries.{is_tidy, needs, sectors_in_size}
+use Rattle.v7_inspect.specs.Tidy.{is_strong_at}
+use Rattle.v7_inspect.specs.Usage.{needs_block, is_needed_by, named_needs}
+use Rattle.v7_damage.proofs.Ranges.{or_none}
 
 module _ (image : Image) (i : ℕ) where
   abbrev f : Frame
@@ -41,9 +39,5 @@ module _ (image : Image) (i : ℕ) where
       ∙ (λ z. not (sym used z) || (((f.head i).nlink == links (tree f) i) && (sym none z && tidy)))
 
   -- a named inode is used
-  pub named_mode : (known : Undamaged) → IsUndamaged image known → is_named (tree f) i ≡ true → (n : Inode) → n ≡ inode_at image i → n.mode ≢ 0
-  unfolding frame
-  named_mode known is named n same = λ free.
-      let any = frame-IsFrame image in
-      let used = named_used f (weak_without_damage f any is.undamaged) any.directories i named in
-      let clash : true ≡ false = sym used ∙ free_by f i n (ap head_of (sym same)) free in absurd (cc)
+  pub named_here : (known : Undamaged) → IsUndamaged image known → is_named (tree f) i ≡ true → (f.head i).is_used ≡ true
+  named_here known is named = let any = frame-IsFrame image in named_used f (weak_without_damage f any is.undamaged) any.directories i named

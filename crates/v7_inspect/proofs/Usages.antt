@@ -1,6 +1,6 @@
 -- The blocks that are in use, sector by sector and inode by inode.
-use Rattle.std.proofs.Common.{◌≡◌, ℕ, zero, suc, ◌+◌, ◌-◌, ◌<◌, ◌≤◌, Bool, true, false, cond, not, ◌&&◌, ◌||◌, ◌==◌, List, [], ◌∷◌, length, get_or, refl, sym, ap, subst, ◌∙◌, arith, ⊎_elim, ◌≢◌, eq-eqb, leb}
-use Rattle.std.specs.Prelude.{count_by, replicate, set}
+use Rattle.std.proofs.Common.{◌≡◌, ℕ, zero, suc, ◌+◌, ◌-◌, ◌<◌, ◌≤◌, Bool, true, false, not, ◌&&◌, ◌||◌, ◌==◌, List, [], ◌∷◌, length, get_or, refl, sym, ap, subst, ◌∙◌, arith, ⊎_elim, ◌≢◌, eq-eqb, leb}
+use Rattle.std.specs.Prelude.{replicate, set}
 use Rattle.std.specs.List.{range_with_len, list_any, sum_by}
 use Rattle.std.proofs.lemmas.Bool.{cases_eq, ne_eqb}
 use Rattle.std.proofs.lemmas.List.{get_or-set_same, get_or-set_other}
@@ -14,36 +14,10 @@ use Rattle.v7_map.specs.Damage.{place_at}
 use Rattle.v7_damage.specs.Stored.{place_of_body, body_at}
 use Rattle.v7_damage.specs.Marks.{mark_at}
 use Rattle.v7_damage.proofs.WalkSteps.{no-marks}
-use Rattle.v7_inspect.specs.Usage.{AreNeeded, needed_by, needs_block, is_needed_by, sectors_in_size, is_at, needs}
+use Rattle.v7_damage.specs.Summaries.{sectors_in_size}
+use Rattle.v7_inspect.specs.Usage.{AreNeeded, needs_block, is_needed_by}
 use Rattle.v7_damage.proofs.BodyPlaces.{place-body}
-use Rattle.v7_inspect.proofs.Tallies.{count_same, count_next}
-
-or_true : (a : Bool) → (a || true) ≡ true
-or_true true = refl
-or_true false = refl
-
-pub or_none : (a : Bool) → (a || false) ≡ a
-or_none true = refl
-or_none false = refl
-
-pub or_more : (a b c : Bool) → (a || (b || c)) ≡ ((a || b) || c)
-or_more true b c = refl
-or_more false b c = refl
-
-pub any_step : (q : ℕ → Bool) (a n : ℕ) → list_any q (range_with_len a (suc n)) ≡ (list_any q (range_with_len a n) || q (a + n))
-any_step q a zero = or_none (q a) ∙ (let e : a ≡ a + 0 = omega arith in ap q e)
-any_step q a (suc n) = ap (λ b. q a || b) (any_step q (a + 1) n) ∙ or_more (q a) (list_any q (range_with_len (a + 1) n)) (q ((a + 1) + n))
-    ∙ (let e : (a + 1) + n ≡ a + suc n = omega arith in ap (λ i. (q a || list_any q (range_with_len (a + 1) n)) || q i) e)
-
-pub count_more : (p : ℕ → Bool) (k : ℕ) → count_by p (range_with_len 0 (k + 1)) ≡ count_by p (range_with_len 0 k) + cond (p k) 1 0
-count_more p k = (let e : k + 1 ≡ suc k = omega arith in ap (λ n. count_by p (range_with_len 0 n)) e) ∙ count_next p 0 k ∙ (let e : 0 + k ≡ k = omega arith in ap (λ i. count_by p (range_with_len 0 k) + cond (p i) 1 0) e)
-
-pub any_more : (q : ℕ → Bool) (k : ℕ) → list_any q (range_with_len 0 (k + 1)) ≡ (list_any q (range_with_len 0 k) || q k)
-any_more q k = (let e : k + 1 ≡ suc k = omega arith in ap (λ n. list_any q (range_with_len 0 n)) e) ∙ any_step q 0 k ∙ (let e : 0 + k ≡ k = omega arith in ap (λ i. list_any q (range_with_len 0 k) || q i) e)
-
-pub any_same : (p q : ℕ → Bool) (a n : ℕ) → ((i : ℕ) → a ≤ i → i < a + n → p i ≡ q i) → list_any p (range_with_len a n) ≡ list_any q (range_with_len a n)
-any_same p q a zero same = refl
-any_same p q a (suc n) same = let here = same a (omega arith) (omega arith) in let rest = any_same p q (a + 1) n (λ i low high. same i (omega arith) (omega arith)) in λ z. here z || rest z
+use Rattle.v7_damage.proofs.Ranges.{any_same, any_step, or_none, or_true}
 
 -- ---- sums
 
@@ -68,22 +42,6 @@ sum_same g h a zero same = refl
 sum_same g h a (suc n) same =
     let here = same a (omega arith) (omega arith) in let rest = sum_same g h (a + 1) n (λ i low high. same i (omega arith) (omega arith)) in
     sum_cons g a (range_with_len (a + 1) n) ∙ (λ z. here z + rest z) ∙ sym (sum_cons h a (range_with_len (a + 1) n))
-
--- ---- what an inode needs
-
-pub needed_same : (p q : ℕ → Bool) (n : ℕ) → ((k : ℕ) → k < n → p k ≡ q k) → needed_by p n ≡ needed_by q n
-needed_same p q n same =
-    let a = count_same p q 0 n (λ k low high. same k (omega arith)) in
-    let b = any_same (λ k. leb 10 k && p k) (λ k. leb 10 k && q k) 0 n (λ k low high. ap (λ t. leb 10 k && t) (same k (omega arith))) in
-    λ z. a z + cond (b z) 1 0
-
-pub needs_read : (image : Image) (i : ℕ) (n : Inode) (places : List ℕ) → n ≡ inode_at image i → ((k : ℕ) → k < 140 → get_or places k 0 ≡ address_of image (head_of n) (place_at k))
-    → needed_by (is_at places) (sectors_in_size n.size) ≡ needs (frame image) i
-unfolding needs frame
-needs_read image i n places is blocks =
-    needed_same (is_at places) (λ k. not (address_of image (head_of (inode_at image i)) (Body k) == 0)) (sectors_in_size n.size)
-    (λ k lt. let low : k < 138 = omega arith in let at = place-body k low in (λ z. not ((blocks (place_of_body k) at.0 ∙ (λ y. address_of image (head_of (is y)) (at.1 y))) z == 0)))
-    ∙ (λ z. needed_by (λ k. not (address_of image (head_of (inode_at image i)) (Body k) == 0)) (sectors_in_size (is z).size))
 
 -- ---- marks of the blocks
 

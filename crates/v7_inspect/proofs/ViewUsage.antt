@@ -19,9 +19,11 @@ use Rattle.v7_map.specs.View.{kind_of, view, files_of, node_of, body_at, body_of
 use Rattle.v7_map.proofs.AnyFrame.{frame-IsFrame}
 use Rattle.v7_map.proofs.Used.{named_used}
 use Rattle.v7_map.proofs.Walks.{and_both}
-use Rattle.v7_inspect.specs.Usage.{needed_by, sectors_in_size, needs, named_needs}
+use Rattle.v7_damage.specs.Summaries.{needed_by, sectors_in_size, needs}
+use Rattle.v7_damage.proofs.Summing.{needed_same}
+use Rattle.v7_inspect.specs.Usage.{named_needs}
 use Rattle.v7_inspect.proofs.Tallies.{node-at}
-use Rattle.v7_inspect.proofs.Usages.{needed_same, sum_same}
+use Rattle.v7_inspect.proofs.Usages.{sum_same}
 
 kind-dir : (type : ℕ) → is_directory_kind (kind_of type) ≡ (type == 4)
 kind-dir type = by_tests (type == 4) (type == 10)

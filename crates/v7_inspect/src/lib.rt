@@ -5,12 +5,13 @@ mod inspection;
 mod judged;
 mod needs;
 mod seen;
+mod summed;
 mod tally;
-mod tidy;
 
 pub use inspection::{inspect, seen_of};
-pub use judged::{Judged, is_named, judge_inodes};
+pub use judged::{Judged, judge_inodes};
 pub use seen::Seen;
+pub use summed::is_named;
 pub use v7_damage::{Damage, RepairFault};
 
 #[cfg(test)]

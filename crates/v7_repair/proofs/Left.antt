@@ -18,7 +18,8 @@ use Rattle.v7_map.proofs.Members.{In-range, any_is, any_in, in_range_of}
 use Rattle.v7_map.proofs.Used.{named_used}
 use Rattle.v7_map.proofs.Walks.{and_both, or_cases, or_left, or_right}
 use Rattle.v7_damage.specs.Marks.{mark_at}
-use Rattle.v7_inspect.specs.Usage.{AreNeeded, is_needed_by, sectors_in_size}
+use Rattle.v7_damage.specs.Summaries.{sectors_in_size}
+use Rattle.v7_inspect.specs.Usage.{AreNeeded, is_needed_by}
 use Rattle.v7_inspect.proofs.Tallies.{node-at}
 use Rattle.v7_mend.specs.Repairs.{Repairs, IsNeeded}
 use Rattle.v7_mend.proofs.Held.{stands_needed, needed_stands}

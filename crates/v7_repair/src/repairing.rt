@@ -18,7 +18,8 @@ use v7_mend::mend;
 ///
 /// The volume has the same files at each moment. Each sector that has to differ is put once and no other, at most 73,719; the super-block stays as it
 /// is. After `Damaged` and `NoMemory` nothing was put: all memory is taken before the first put. After `Failed` the rest is left to be mended by another
-/// repair. It reads each sector of the i-list at most five times, each indirect block four times, and each sector of a walked directory twice.
+/// repair. It reads each sector of the i-list at most five times, each indirect block four times, and each sector of a walked directory twice; where
+/// these are more than 200,000, the inodes and indirect blocks of some directories twice more.
 pub fn repair<S: Stable>(alloc: Global, store: &mut S) -> Result<Mended, RepairFault>
     ensures leaves { S.tells → Leaves (S.image store.old) (S.image store.new) result }
     ensures fits { IfOk result (λ mended. FitStore (S.sector_count store.old) mended.sets.blocks mended.sets.inodes) }
@@ -38,7 +39,7 @@ pub fn repair<S: Stable>(alloc: Global, store: &mut S) -> Result<Mended, RepairF
     };
     let seen = Seen {
         strong: true,
-        ..seen_of(&known, &judged)
+        ..seen_of(&known)
     };
     let changed = match mend(store, known.super_block.s_isize as u32, &known.counts) {
         Ok(changed) => changed,

@@ -6,7 +6,7 @@ use std::alloc::Global;
 use std::test::Fail;
 use store_mem::Memory;
 use v7_damage::{Damage, RepairFault};
-use v7_inspect::Seen;
+use v7_inspect::{Seen, inspect};
 use volume_mem::{FRESH, test_volume};
 
 // Another byte: its sector, its place there, and what it is.
@@ -276,6 +276,13 @@ fn no_sector_is_read_often(rt: HostRuntime) -> Result<(), Fail> {
         store,
         reads: [0; 64],
     };
+    assert!(rt; inspect(rt.alloc(), &mut counting).is_ok());
+    let mut inspected = [0; 64];
+    for (sector, times) in [(1, 1), (2, 1), (3, 1), (4, 2), (7, 1)] {
+        inspected[sector] = times;
+    }
+    assert!(rt; counting.reads == inspected);
+    counting.reads = [0; 64];
     assert!(rt; repair(rt.alloc(), &mut counting).is_ok());
     assert!(rt; counting.store.order.starts_with(&[7, 2, 3]));
     let mut most = [0; 64];

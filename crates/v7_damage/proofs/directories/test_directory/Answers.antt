@@ -1,4 +1,4 @@
-use Rattle.std.proofs.Common.{rules, arith, ◌≡◌, ◌≢◌, ◌∙◌, length, true, false, Some, sym, subst}
+use Rattle.std.proofs.Common.{rules, arith, ◌≡◌, ◌≢◌, ◌∙◌, length, true, false, Some, refl, sym, subst}
 use Rattle.v7_map.specs.Frame.{frame}
 use Rattle.v7_map.specs.Tree.{tree, is_walked}
 use Rattle.v7_map.specs.Image.{inode_sector}
@@ -66,4 +66,4 @@ returns-else-wrong-ino-clause-told c = λ image has comes.
     let is : c.is_held.result ≡ is_held (tree (frame image)) c.args.ino = c.is_held.ensures (tree (frame image)) c.args.walks.now.found ups holds (walked-by image c.args.listed.now.types.items c.args.listed.now.bodies c.args.walks.now c.args.noted.now.parents c.args.noted.now.kept (length c.args.listed.now.types.items) c.args.ino has c.requires.some c.requires.within true marked) in
     let dotted : mark_at c.args.noted.now.parents.dotted c.args.ino ≡ true = sym c.has-2.ensures ∙ search rules in
     let held : is_held (tree (frame image)) c.args.ino ≡ true = sym is ∙ search rules in
-    wrong_here image c.args.listed.now.types.items c.args.listed.now.bodies c.args.walks.now c.args.noted.now.parents c.args.noted.now.kept (length c.args.listed.now.types.items) c.args.ino has c.requires.some c.requires.within marked dotted held c.in-Some.wrong c.in-Some.is c.if-wrong-ino.false c.block_of-sector.result c.block_of-sector.ensures
+    wrong_here image c.args.listed.now.types.items c.args.listed.now.bodies c.args.walks.now c.args.noted.now.parents c.args.noted.now.kept (length c.args.listed.now.types.items) c.args.ino has c.requires.some c.requires.within marked dotted held c.in-Some.wrong c.in-Some.is c.if-wrong-ino.false c.in-Some.wrong.sector refl

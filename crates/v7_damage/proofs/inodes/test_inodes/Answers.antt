@@ -6,7 +6,8 @@ use Rattle.stable.proofs.Looking.{no_look, looks_again}
 use Rattle.v7_map.specs.Image.{inode_sector}
 use Rattle.v7_map.specs.Frame.{Frame, frame}
 use Rattle.v7_damage.specs.Marks.{AreSeen}
-use Rattle.v7_damage.specs.Stored.{AreBodies, Keeps}
+use Rattle.v7_damage.specs.Stored.{Keeps}
+use Rattle.v7_damage.specs.Tables.{AreBodies}
 use Rattle.v7_damage.specs.Tests.{HasNumbers, IsFaultTold, first_failing, earlier_blocks, tests_of, tests_of_inodes}
 use Rattle.v7_damage.proofs.Failing.{first-append_none, none_fails}
 use Rattle.v7_damage.proofs.InodeTests.{earlier_start, inodes_more, inodes_end}

@@ -2,7 +2,8 @@ use Rattle.std.proofs.Common.{◌≡◌, ◌<◌, ◌+◌, ◌-◌, ℕ, [], len
 use Rattle.stable.specs.Looked.{Looked}
 use Rattle.v7_map.specs.Frame.{frame}
 use Rattle.v7_damage.specs.Marks.{AreSeen}
-use Rattle.v7_damage.specs.Stored.{AreBodies, HasTables, Keeps}
+use Rattle.v7_damage.specs.Stored.{Keeps}
+use Rattle.v7_damage.specs.Tables.{AreBodies, HasTables}
 use Rattle.v7_damage.specs.Tests.{HasNumbers, first_failing, tests_of_inodes, earlier_blocks}
 use Rattle.v7_damage.proofs.inodes.test_inodes.Given as goal
 

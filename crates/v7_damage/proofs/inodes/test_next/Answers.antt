@@ -6,12 +6,15 @@ use Rattle.v7_map.specs.Image.{is_inode, inode_at, inode_sector}
 use Rattle.v7_map.specs.Frame.{Frame, Head, frame, head_of, address_of}
 use Rattle.v7_map.specs.Damage.{place_at}
 use Rattle.v7_damage.specs.declared.damage.Damage.TheVariants as kind
-use Rattle.v7_damage.specs.Stored.{Keeps}
+use Rattle.v7_damage.specs.Stored.{Keeps, body_at}
+use Rattle.v7_damage.specs.Summaries.{no_summary, summary_by}
+use Rattle.v7_damage.specs.Tables.{slots_kept}
+use Rattle.v7_damage.proofs.Summing.{summary_is}
 use Rattle.v7_damage.specs.Tests.{HasInode, first_failing, kind_of_test, tests_of}
 use Rattle.v7_damage.proofs.BodyPlaces.{body-blocks}
 use Rattle.v7_damage.proofs.Failing.{told-none}
-use Rattle.v7_damage.proofs.FrameInodes.{has_inode, is_numbered, tables_more, bodies_more}
-use Rattle.v7_damage.proofs.FreeInodes.{type_free, root_told, none_told, seen_next, tables_free, bodies_free}
+use Rattle.v7_damage.proofs.FrameInodes.{has_inode, is_numbered, kept_here, tables_more, bodies_more}
+use Rattle.v7_damage.proofs.FreeInodes.{type_free, root_told, none_told, seen_next, bodies_free}
 use Rattle.v7_damage.proofs.InodeTests.{told_inode, used_by}
 use Rattle.v7_damage.proofs.inodes.test_next.Goals as goal
 
@@ -65,14 +68,12 @@ returns-then-mode-eq0-clause-bodies g c = λ tells n has le keeps had.
     let mode : c.in_ok-mode.mode ≡ (inode_at image ino).mode = c.in_ok-mode.ensures.mode tells keeps inside in
     let free : (inode_at image ino).mode ≡ 0 = sym mode ∙ c.if-mode-eq0.true in
     let items : c.push.new.self.items ≡ c.args.types.now.items ++ 0 ∷ [] = search rules in
-    let kept = c.in_ok-keep_none.ensures in
-    bodies_free ino c.args.types.now.items c.push.new.self.items c.args.bodies.now c.keep_none.new.bodies c.requires.tables c.requires.number items kept.slots kept.starts kept.blocks image free had
+    bodies_free image ino free c.args.types.now.items c.push.new.self.items c.args.bodies.now c.keep_none.new.bodies (λ k. 0) c.requires.tables c.requires.number items (c.in_ok-keep_none.ensures (λ k. 0)) had
 
 pub returns-then-mode-eq0-clause-tables : goal.returns-then-mode-eq0-clause-tables
 returns-then-mode-eq0-clause-tables g c =
     let items : c.push.new.self.items ≡ c.args.types.now.items ++ 0 ∷ [] = search rules in
-    let kept = c.in_ok-keep_none.ensures in
-    tables_free c.args.ino c.args.types.now.items c.push.new.self.items c.args.bodies.now c.keep_none.new.bodies c.requires.tables c.requires.number items kept.slots kept.starts kept.blocks
+    tables_more c.args.ino c.args.types.now.items c.push.new.self.items c.args.bodies.now c.keep_none.new.bodies 0 0 (λ k. 0) no_summary c.requires.tables c.requires.number items (c.in_ok-keep_none.ensures (λ k. 0))
 
 pub returns-in-Some-clause-told : goal.returns-in-Some-clause-told
 returns-in-Some-clause-told g c = λ tells n has le keeps was.
@@ -155,16 +156,17 @@ returns-clause-bodies g c = λ tells n has le keeps had.
     (λ k lt. (c.in_ok-places.ensures.places tells).each k lt ∙ ap (λ (x : Image). address_of x (head_of c.in_ok-inode.inode) (place_at k)) same) in
     let type : ℕ = c.in_ok-inode.inode.mode / 4096 in
     let items : c.push-2.new.self.items ≡ c.args.types.now.items ++ type ∷ [] = search rules in
-    let put = c.in_ok-keep_body.ensures in
-    bodies_more ino c.args.types.now.items c.push-2.new.self.items c.args.bodies.now c.keep_body.new.bodies c.in_ok-inode.inode c.in_ok-places.places type c.requires.tables c.requires.number items put.slots put.starts put.blocks
-    image (sym is.head) (body-blocks f ino c.args.isize c.args.fsize c.in_ok-inode.inode c.in_ok-places.places is) had
+    bodies_more ino c.args.types.now.items c.push-2.new.self.items c.args.bodies.now c.keep_body.new.bodies type (slots_kept c.in_ok-inode.inode) (body_at c.in_ok-places.places) (summary_by c.in_ok-inode.inode c.in_ok-places.places)
+    c.requires.tables c.requires.number items c.in_ok-keep_body.ensures image
+    (λ dir. (kept_here f ino c.in_ok-inode.inode (sym is.head) dir, body-blocks f ino c.args.isize c.args.fsize c.in_ok-inode.inode c.in_ok-places.places is))
+    (λ used. summary_is f ino c.args.isize c.args.fsize c.in_ok-inode.inode c.in_ok-places.places is) had
 
 pub returns-clause-tables : goal.returns-clause-tables
 returns-clause-tables g c =
     let type : ℕ = c.in_ok-inode.inode.mode / 4096 in
     let items : c.push-2.new.self.items ≡ c.args.types.now.items ++ type ∷ [] = search rules in
-    let put = c.in_ok-keep_body.ensures in
-    tables_more c.args.ino c.args.types.now.items c.push-2.new.self.items c.args.bodies.now c.keep_body.new.bodies c.in_ok-inode.inode c.in_ok-places.places type c.requires.tables c.requires.number items put.slots put.starts put.blocks
+    tables_more c.args.ino c.args.types.now.items c.push-2.new.self.items c.args.bodies.now c.keep_body.new.bodies type (slots_kept c.in_ok-inode.inode) (body_at c.in_ok-places.places) (summary_by c.in_ok-inode.inode c.in_ok-places.places)
+    c.requires.tables c.requires.number items c.in_ok-keep_body.ensures
 
 pub returns-clause-keeps : goal.returns-clause-keeps
 returns-clause-keeps g c = λ tells keeps.

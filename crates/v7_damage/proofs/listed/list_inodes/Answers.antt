@@ -5,7 +5,7 @@ use Rattle.v7_map.specs.Tree.{tree}
 use Rattle.v7_map.specs.Damage.{Sizes}
 use Rattle.v7_damage.specs.Tests.{IsFaultTold, HasNumbers, first_failing, tests_of_inodes}
 use Rattle.v7_damage.specs.Marks.{AreSeen}
-use Rattle.v7_damage.specs.Stored.{AreBodies, HasTables}
+use Rattle.v7_damage.specs.Tables.{AreBodies, HasTables}
 use Rattle.v7_damage.proofs.Failing.{first-append_none}
 use Rattle.v7_damage.proofs.DirectoryTests.{told_first}
 use Rattle.v7_damage.proofs.Supers.{numbers_read, inodes_read, seen_start, sector_stands, told_same}

@@ -9,6 +9,7 @@ use Rattle.v7_map.proofs.Used.{walked_is_dir}
 use Rattle.v7_damage.specs.Marks.{mark_at}
 use Rattle.v7_damage.specs.Names.{HasTested}
 use Rattle.v7_damage.specs.Slots.{seen_slot, names}
+use Rattle.v7_damage.specs.Tables.{AreSectors}
 use Rattle.v7_damage.proofs.HeldSteps.{held_more, held_same}
 use Rattle.v7_damage.proofs.Noting.{dotted_other, tested_other}
 use Rattle.v7_damage.proofs.noted.note_directory.Goals as goal
@@ -36,7 +37,8 @@ returns-clause-noted g c = λ tells was.
     let d : ℕ = c.args.ino in
     let marked : mark_at c.args.walks.now.found d ≡ true = sym c.has.ensures ∙ search rules in
     let walks : is_walked t d ≡ true = sym (was.walks_are.marks d) ∙ marked in
-    let seen : map seen_slot c.read_directory.new.slots.items ≡ f.slots d = c.in_ok-read_directory.ensures.slots tells (was.can d (walked_is_dir (walked_reached t d walks))) in
+    let seen : map seen_slot c.read_directory.new.slots.items ≡ f.slots d = c.in_ok-sectors.ensures.slots tells (was.can d (walked_is_dir (walked_reached t d walks))) in
+    let stand : AreSectors f c.args.listed.now.bodies c.in_ok-sectors.sectors d = c.in_ok-sectors.ensures.sectors tells (was.can d (walked_is_dir (walked_reached t d walks))) in
     let items : c.deref.result.now ≡ c.read_directory.new.slots.items = c.deref.ensures.value in
     let past : List Slot = take (length c.deref.result.now - c.min-first.result) (drop c.min-first.result c.deref.result.now) in
     let first : c.min-first.result ≡ min 2 (length c.read_directory.new.slots.items) = omega arith in
@@ -48,5 +50,5 @@ returns-clause-noted g c = λ tells was.
           (λ i some. c.hold_named.ensures.marks i some ∙ ap (λ (l : List ℕ). mark_at c.args.parents.now.held i || ((get_or l i 0 == d) && names past i)) c.deref-2.ensures.value) was.held;
       dotted = c.note_dots.ensures.dotted t (ap (map seen_slot) c.deref-3.ensures.value ∙ seen) was.dotted;
       tested = subst (λ (l : List ℕ). HasTested f l c.keep_slots.new.kept (d + 1)) c.deref-5.ensures.value
-          (c.keep_slots.ensures.tested f (ap (map seen_slot) c.deref-4.ensures.value ∙ seen) walks (subst (λ (l : List ℕ). HasTested f l c.args.kept.now d) (sym c.deref-5.ensures.value) was.tested));
+          (c.keep_slots.ensures.tested f (ap (map seen_slot) c.deref-4.ensures.value ∙ seen) stand walks (subst (λ (l : List ℕ). HasTested f l c.args.kept.now d) (sym c.deref-5.ensures.value) was.tested));
     }

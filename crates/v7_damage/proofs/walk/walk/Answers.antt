@@ -1,6 +1,7 @@
 use Rattle.std.proofs.Common.{rules, arith, ◌≡◌, ◌<◌, ◌∙◌, ◌||◌, ◌&&◌, ℕ, List, true, false, length, get_or, map, sym, ap, subst}
 use Rattle.stable.specs.Store.{Image}
 use Rattle.stable.proofs.Looking.{no_look, looks_again}
+use Rattle.v7_map.specs.Image.{inode_sector}
 use Rattle.v7_map.specs.Frame.{frame}
 use Rattle.v7_map.specs.Tree.{Tree, tree}
 use Rattle.std.specs.Prelude.{replicate}
@@ -9,7 +10,7 @@ use Rattle.v7_damage.specs.Marks.{mark_at, is_among}
 use Rattle.v7_layout.specs.declared.slot.Slot.{Slot as Stored}
 use Rattle.v7_map.proofs.Walks.{walked_reached}
 use Rattle.v7_map.proofs.Used.{walked_is_dir}
-use Rattle.v7_damage.specs.Stored.{CanRead}
+use Rattle.v7_damage.specs.Tables.{CanRead}
 use Rattle.v7_damage.specs.Slots.{seen_slot, names}
 use Rattle.v7_damage.specs.Walk.{CanWalk, is_dir_in}
 use Rattle.v7_damage.proofs.WalkSteps.{listed_none, listed-within, among-at, kept_more, reached_more, closed_more, first_marked, first_reached, end_walked, dir-numbers, ups_more, ups_walked}
@@ -42,7 +43,7 @@ read_directory-requires g c =
     let long = c.walking.invariant.long in
     let counts = c.requires.tables.slots in
     let starts = c.requires.tables.starts in
-    record { counts = omega arith; starts = omega arith }
+    record { stands = subst (λ m. inode_sector c.index-ino.result.now < m) (sym c.walking.invariant.looked.sectors) (c.requires.stand c.index-ino.result.now (omega arith)); counts = omega arith; starts = omega arith }
 
 pub walking-preserved : goal.walking-preserved
 walking-preserved g c =
@@ -57,7 +58,7 @@ walking-preserved g c =
     let marked : mark_at c.walking.found d ≡ true = i.listed.each d ∙ ap (is_among c.walking.list.items) is ∙ among-at c.walking.list.items n lt in
     let slots : S.tells → CanWalk image c.args.types.now c.args.bodies.now → map seen_slot c.read_directory.new.slots.items ≡ t.slots d =
     (λ tells can. let dir : t.is_dir d ≡ true = walked_is_dir (walked_reached t d (i.reached tells can d marked)) in
-    c.in_ok-read_directory.ensures.slots tells (subst (λ (x : Image). CanRead x c.args.bodies.now d) (sym i.looked.image) (can.read d dir)) ∙ ap (λ (x : Image). (frame x).slots d) i.looked.image) in
+    c.in_ok-_sectors.ensures.slots tells (subst (λ (x : Image). CanRead x c.args.bodies.now d) (sym i.looked.image) (can.read d dir)) ∙ ap (λ (x : Image). (frame x).slots d) i.looked.image) in
     let named : (j : ℕ) → mark_at c.find_named.new.found j ≡ (mark_at c.walking.found j || (is_dir_in c.args.types.now j && names c.read_directory.new.slots.items j)) =
     (λ j. c.in_ok-find_named.ensures.marks j ∙ ap (λ (l : List Stored). mark_at c.walking.found j || (is_dir_in c.args.types.now j && names l j)) c.deref.ensures.value) in
     record {
@@ -72,7 +73,7 @@ walking-preserved g c =
       ups = λ tells can. ups_more t c.walking.ups.items c.walking.list.items c.find_named.new.list.items n d c.up_of.result (let l = i.ups_long in let r = c.requires.ups in let b = listed-within c.walking.found c.walking.list.items n i.listed lt in let long = i.long in omega arith) is lt
           c.in_ok-find_named.ensures.front (c.up_of.ensures t d (ap (map seen_slot) c.deref-in-walking.ensures.value ∙ slots tells can)) (i.ups tells can);
       ups_long = search rules;
-      looked = looks_again S g.met.S.Stable.clocked i.looked c.in_ok-read_directory.ensures.looked;
+      looked = looks_again S g.met.S.Stable.clocked i.looked c.in_ok-_sectors.ensures.looked;
     }
 
 pub returns-clause-walked : goal.returns-clause-walked

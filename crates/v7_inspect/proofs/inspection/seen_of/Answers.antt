@@ -8,13 +8,14 @@ use Rattle.v7_inspect.proofs.ViewUsage.{blocks_are}
 use Rattle.v7_inspect.proofs.inspection.seen_of.Goals as goal
 
 pub returns : goal.returns
-returns c = λ image is judged.
+returns c = λ image is.
+    let summed = c.sum_up-sum.ensures image is in
     let known = c.args.known.now in
-    let used : c.args.judged.now.used ≡ usage (view image) = judged.used_is in
+    let used : c.sum_up-sum.result.used ≡ usage (view image) = summed.used_is in
     record {
       undamaged = is.undamaged;
-      strong_only = judged.strong_only;
-      strong_always = judged.strong_always;
+      strong_only = summed.strong_only;
+      strong_always = summed.strong_always;
       clean_is = ap (λ (s : Super). s.s_fmod == 0) is.super_is;
       files_are = c.count_kind.ensures ∙ nodes_counted image known is c.requires.counts Regular;
       directories_are = c.count_kind-2.ensures ∙ nodes_counted image known is c.requires.counts Directory;

@@ -34,6 +34,9 @@ returns-in-Err-find_free-clause-run g c =
     run_looked S g.met.S.Stable.clocked g.met.S.Stable.counted {T = Sets} c.args.store.now c.find_free.new.store c.in-Err-find_free.fault look
     (λ failed. let rose = c.in-Err-find_free.ensures.cause failed in let later = first.later in omega (arith, rose, later))
 
+pub seen_of-requires : goal.seen_of-requires
+seen_of-requires g c = let e = c.in-Ok.ensures.tables in record { some = e.some; few = e.few; counts = e.counts; summaries = e.summaries }
+
 pub mend-requires-clause-found : goal.mend-requires-clause-found
 mend-requires-clause-found g c = λ tells.
     let S = g.S.Stable in
@@ -74,7 +77,7 @@ returns-clause-leaves g c = λ tells.
     subst (λ (x : Image). IsJudged x judged) c.in-Ok.ensures.looked.image (c.in-Ok-judge_inodes.ensures.judged tells (subst (λ (x : Image). IsUndamaged x known) (sym c.in-Ok.ensures.looked.image) is)) in
     let left : AreLeft old judged.needed c.in-Ok-find_free.sets =
     subst (λ (x : Image). AreLeft x judged.needed c.in-Ok-find_free.sets) first.image (c.in-Ok-find_free.ensures.left tells (subst (λ (x : Image). IsUndamaged x known) (sym first.image) is)) in
-    is_repaired old new known judged c.deref.result.now c.seen_of.result _ is judges c.in-Ok-judge_inodes.ensures.length left c.in-Ok-find_free.ensures.room (c.seen_of.ensures old is judges) refl
+    is_repaired old new known judged c.deref.result.now c.seen_of.result _ is judges c.in-Ok-judge_inodes.ensures.length left c.in-Ok-find_free.ensures.room (c.seen_of.ensures old is) refl
     (subst (λ (x : Image). IsMended x new c.deref.result.now) look.image (c.in-Ok-mend.ensures.mended tells))
     (subst (λ (x : Image). Differ (MayChange x) x new c.in-Ok-mend.changed) look.image (c.in-Ok-mend.ensures.exact tells))
     (kept_by S clocked g.met.S.Stable.counted look c.in-Ok-mend.ensures.puts tells).super

@@ -1,7 +1,7 @@
 use Rattle.std.proofs.Common.{arith, ◌∙◌, ◌==◌, ◌&&◌, ◌||◌, ltb, sym}
 use Rattle.v7_damage.specs.Stored.{body_at}
-use Rattle.v7_inspect.proofs.Mending.{past_none, past_more}
-use Rattle.v7_inspect.proofs.tidy.none_past_first.Goals as goal
+use Rattle.v7_damage.proofs.Summing.{past_none, past_more}
+use Rattle.v7_damage.proofs.tidy.none_past_first.Goals as goal
 
 pub loop-index-init : goal.loop-index-init
 loop-index-init c = past_none (body_at c.args.places.now) c.args.size

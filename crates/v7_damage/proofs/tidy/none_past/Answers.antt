@@ -1,8 +1,8 @@
 use Rattle.std.proofs.Common.{arith, ◌≡◌, ◌∙◌, ◌+◌, ◌==◌, ◌&&◌, ◌||◌, ltb, sym, ap}
 use Rattle.v7_damage.specs.Stored.{body_at}
-use Rattle.v7_inspect.specs.Tidy.{none_past}
-use Rattle.v7_inspect.proofs.Mending.{past_more}
-use Rattle.v7_inspect.proofs.tidy.none_past.Goals as goal
+use Rattle.v7_damage.specs.Summaries.{none_past}
+use Rattle.v7_damage.proofs.Summing.{past_more}
+use Rattle.v7_damage.proofs.tidy.none_past.Goals as goal
 
 pub loop-index-init : goal.loop-index-init
 loop-index-init c = c.none_past_first-none.ensures

@@ -1,15 +1,14 @@
-// Whether there is nothing to mend in an inode.
+// Whether the addresses of an inode are tidy.
 
 ghost use Rattle.std.specs.Prelude.{◌≡◌, get_or, ◌||◌, ◌&&◌, ◌==◌};
 ghost use Rattle.v7_damage.specs.Stored.{body_at};
-ghost use Rattle.v7_inspect.specs.Tidy.{none_past, some_listed, is_tidy};
+ghost use Rattle.v7_damage.specs.Summaries.{none_past, some_listed, is_tidy};
 
-use v7_damage::body_block;
-use v7_layout::Inode;
+use crate::bodies::body_block;
 use v7_map::sectors_of;
 
-/// Both.
-pub(crate) fn both(first: bool, second: bool) -> bool
+// Both.
+fn both(first: bool, second: bool) -> bool
     ensures { result ≡ (first && second) }
 {
     first && second
@@ -60,19 +59,12 @@ fn some_listed(places: &[u32; 140]) -> bool
     some
 }
 
-// Whether the addresses of an inode of this size are tidy.
-fn is_tidy(size: u32, places: &[u32; 140]) -> bool
+/// Whether the addresses of an inode of this size, whose blocks stand at these places, are tidy.
+pub(crate) fn is_tidy(size: u32, places: &[u32; 140]) -> bool
     ensures { result ≡ is_tidy (body_at places.now) (get_or places.now 10 0) size }
 {
     both(
         none_past(size, places),
         either(places[10] == 0, some_listed(places)),
     )
-}
-
-/// Whether there is nothing to mend in a named inode whose blocks stand at these places, that so many slots name.
-pub(crate) fn is_strong(inode: &Inode, places: &[u32; 140], count: u16) -> bool
-    ensures { result ≡ ((inode.now.nlink == count) && is_tidy (body_at places.now) (get_or places.now 10 0) inode.now.size) }
-{
-    both(inode.nlink == count, is_tidy(inode.size, places))
 }

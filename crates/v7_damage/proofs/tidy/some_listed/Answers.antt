@@ -1,7 +1,7 @@
 use Rattle.std.proofs.Common.{arith, ◌∙◌, ◌==◌, ◌||◌, not, sym}
 use Rattle.v7_damage.specs.Stored.{body_at}
-use Rattle.v7_inspect.proofs.Mending.{listed_none, listed_more}
-use Rattle.v7_inspect.proofs.tidy.some_listed.Goals as goal
+use Rattle.v7_damage.proofs.Summing.{listed_none, listed_more}
+use Rattle.v7_damage.proofs.tidy.some_listed.Goals as goal
 
 pub loop-index-init : goal.loop-index-init
 loop-index-init c = listed_none (body_at c.args.places.now)
