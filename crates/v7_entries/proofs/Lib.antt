@@ -1,1 +1,2 @@
-
+pub mod SectorSlots
+pub mod Directories

@@ -12,6 +12,9 @@ use stable::{Failed, Stable};
 use v7_layout::Inode;
 use v7_map::read_places;
 
+/// How many slots are those of `.` and `..`.
+const DOTS: u32 = 2;
+
 /// Whether a directory has an entry past its first two slots, which are those of `.` and `..` (RFC 1094 2.2.16). Each sector of the directory is
 /// read at most once, and its block of addresses once; a sector that the store hasn't has no slots. Nothing is changed.
 pub fn has_entries<S: Stable>(store: &mut S, inode: &Inode) -> Result<bool, Failed>
@@ -23,7 +26,7 @@ pub fn has_entries<S: Stable>(store: &mut S, inode: &Inode) -> Result<bool, Fail
     let count = count_slots(inode);
     for index in 0..count.div_ceil(32) {
         let block = body_block(&places, index);
-        let from = if index == 0 { 2 } else { 0 };
+        let from = DOTS.saturating_sub(32 * index) as usize;
         if has_used(store, block, from, slots_from(count, index))? {
             return Ok(true);
         }
