@@ -23,7 +23,7 @@ returns-then-branch-clause-found g c = λ tells has.
     sym (used_there image n has s few is_few
     (at_sector (λ bytes. HasUsed bytes (2 - 32 * s) few true) image (S.image c.loop-index.store) n c.in_ok-places.places s c.body_block-block.result (S.sector_count c.loop-index.store) has (c.in_ok-places.ensures.places tells)
     (omega arith) c.body_block-block.ensures c.loop-index.invariant.looked.image (c.loop-index.invariant.looked.sectors ∙ sym size)
-    (λ some within. subst (λ (b : Bool). HasUsed (sector_at (S.image c.loop-index.store) c.body_block-block.result) (2 - 32 * s) few b) c.if-branch.true ?)))
+    (λ some within. subst (λ (b : Bool). HasUsed (sector_at (S.image c.loop-index.store) c.body_block-block.result) (2 - 32 * s) few b) c.if-branch.true (subst (λ (m : ℕ). HasUsed (sector_at (S.image c.loop-index.store) c.body_block-block.result) m few c.in_ok-has_used.field-0) c.saturating_sub-from.ensures (c.in_ok-has_used.ensures.found tells some within)))))
 
 pub loop-index-preserved : goal.loop-index-preserved
 loop-index-preserved g c =
@@ -41,7 +41,7 @@ loop-index-preserved g c =
           unused_more image n has s few is_few (c.loop-index.invariant.none tells has)
           (at_sector (λ bytes. HasUsed bytes (2 - 32 * s) few false) image (S.image c.loop-index.store) n c.in_ok-places.places s c.body_block-block.result (S.sector_count c.loop-index.store) has (c.in_ok-places.ensures.places tells)
           (omega arith) c.body_block-block.ensures c.loop-index.invariant.looked.image (c.loop-index.invariant.looked.sectors ∙ sym size)
-          (λ some within. subst (λ (b : Bool). HasUsed (sector_at (S.image c.loop-index.store) c.body_block-block.result) (2 - 32 * s) few b) c.if-branch.false ?));
+          (λ some within. subst (λ (b : Bool). HasUsed (sector_at (S.image c.loop-index.store) c.body_block-block.result) (2 - 32 * s) few b) c.if-branch.false (subst (λ (m : ℕ). HasUsed (sector_at (S.image c.loop-index.store) c.body_block-block.result) m few c.in_ok-has_used.field-0) c.saturating_sub-from.ensures (c.in_ok-has_used.ensures.found tells some within))));
       looked = looks_again S g.met.S.Stable.clocked c.loop-index.invariant.looked c.in_ok-has_used.ensures.looked;
     }
 
