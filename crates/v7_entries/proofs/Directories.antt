@@ -111,7 +111,7 @@ module _ (image : Image) (n : Inode) (has : HasBody image n) where
   pub no_first : (p : Slot → Bool) (s : ℕ) → count ≤ 32 * s → ((k : ℕ) → k < 32 * s → k < count → p (slot k) ≡ false) → position p (slots_at image n) ≡ None
   no_first p s past none = ap (position p) slots_are ∙ sym (none_in p slot count (λ k lt. none k (omega arith) lt))
 
-  slot_read : (k : ℕ) → k < count → get_or (slots_at image n) k None ≡ slot k
+  pub slot_read : (k : ℕ) → k < count → get_or (slots_at image n) k None ≡ slot k
   slot_read k lt = ap (λ l. get_or l k None) slots_are ∙ get_or-map-range_with_len slot 0 count k k None lt (omega arith)
 
   -- a slot from the third on isn't empty
