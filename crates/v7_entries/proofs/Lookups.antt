@@ -42,7 +42,7 @@ has_some : (name : List ℕ) (s : Slot) → has_name name s ≡ true → (e : �
 has_some name None passes = absurd (cc)
 has_some name (Some e) passes = (e, refl)
 
--- a look-up that isn't refused is in a directory
+-- the kind of a directory's type
 kind_directory : (type : ℕ) → is_directory (kind_of type) ≡ (type == 4)
 kind_directory type = by_test (type == 4) (type == 10)
   where
@@ -54,6 +54,12 @@ kind_directory type = by_test (type == 4) (type == 10)
 first_passed : (a : Bool) (why : Stat) (rest : List (Bool × Stat)) → first_of ((not a, why) ∷ rest) ≡ None → a ≡ true
 first_passed true why rest e = refl
 first_passed false why rest e = absurd (cc)
+
+-- a look-up that isn't refused is in a directory
+pub lookup_directory : (image : Image) (d : ℕ) (name : List ℕ) → lookup_refusal_by (inode_at image d) name ≡ None → frames.is_directory ((frame image).head d) ≡ true
+unfolding frame
+lookup_directory image d name accepted = sym (kind_directory ((inode_at image d).mode / 4096))
+    ∙ first_passed (is_directory (kind_of ((inode_at image d).mode / 4096))) stat.Notdir ((is_bad name, stat.Acces) ∷ (ltb most_name (length name), stat.Nametoolong) ∷ []) accepted
 
 module _ (image : Image) (strong : IsStrong (frame image)) where
   -- a used inode is one of the volume's
@@ -94,8 +100,7 @@ module _ (image : Image) (strong : IsStrong (frame image)) where
       used = and_left _ _ (and_right _ _ stands)
 
       directory : frames.is_directory ((frame image).head dir.ino) ≡ true
-      unfolding frame
-      directory = sym (kind_directory ((inode_at image dir.ino).mode / 4096)) ∙ first_passed (is_directory (kind_of ((inode_at image dir.ino).mode / 4096))) stat.Notdir ((is_bad name, stat.Acces) ∷ (ltb most_name (length name), stat.Nametoolong) ∷ []) accepted
+      directory = lookup_directory image dir.ino name accepted
 
       attr : attr_of dir.ino n ≡ stored_attr dir.ino (inode_at image dir.ino)
       attr = attr_of-stored image strong dir.ino used
