@@ -13,6 +13,7 @@ use Rattle.v7_map.specs.Frame.{frame}
 use Rattle.v7_map.specs.View.{view}
 use Rattle.v7_map.specs.Plans.{IsTornImage}
 use Rattle.v7_map.specs.Weak.{IsWeak, IsStrong}
+use Rattle.stable.specs.Counts.{Rose}
 use Rattle.stable.specs.Looked.{Looked}
 use Rattle.stable.specs.declared.store.Stable.{Ghosts}
 use Rattle.stable.proofs.Clocked.{weaker}
@@ -46,5 +47,14 @@ answered_looking s call cred now r old new looked form idle answer = record {
   leaves = λ tells strong. done_same call cred now (s.image old) (s.image new) r looked.image strong (answer tells strong) (idle (view (s.image old)));
   form = form;
   cause = looked.later;
+  crash = weaker looked.crash (λ i left is strong. torn_same ((call, cred) ∷ []) now (s.image old) i is strong.weak);
+}
+
+-- a call that only looked, and failed
+pub failed_looking : {S : Type 0} (s : Ghosts S) (call : Call) (cred : Cred) (now : ℕ) (old new : S) → Looked s old new → Rose (s.faults old) (s.faults new) → IsApplied s old new call cred now outcome.Io
+failed_looking s call cred now old new looked rose = record {
+  leaves = λ tells strong. torn_same ((call, cred) ∷ []) now (s.image old) (s.image new) looked.image strong.weak;
+  form = tt;
+  cause = (looked.later, rose);
   crash = weaker looked.crash (λ i left is strong. torn_same ((call, cred) ∷ []) now (s.image old) i is strong.weak);
 }
