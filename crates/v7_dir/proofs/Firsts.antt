@@ -60,10 +60,11 @@ module _ (p : Slot → Bool) (slot : ℕ → Slot) (n : ℕ) where
       let l = long in
       let same : Some (position_or_len p row) ≡ Some k = cond_below (position_or_len p row) (length row) (Some (position_or_len p row)) None lt ∙ is in
       let at : position_or_len p row ≡ k = cc in
-      let within : k < n = omega (arith, at, l) in
-      (within,
-      ap p (sym (at_index k within)) ∙ ap (λ m. p (get_or row m None)) (sym at) ∙ not_false (p (get_or row (position_or_len p row) None)) (prefix_len_stops (λ s. not (p s)) row None lt),
-      (λ j below. before_first j (omega (arith, at)) (omega arith))))
+      let within : k < n = omega (arith, at, l) in (
+        within,
+        ap p (sym (at_index k within)) ∙ ap (λ m. p (get_or row m None)) (sym at) ∙ not_false (p (get_or row (position_or_len p row) None)) (prefix_len_stops (λ s. not (p s)) row None lt),
+        (λ j below. before_first j (omega (arith, at)) (omega arith)),
+      ))
       (λ (ge : length row ≤ position_or_len p row).
       let no : Some k ≡ None = sym is ∙ sym (cond_above (position_or_len p row) (length row) (Some (position_or_len p row)) None None ge refl) in absurd (cc))
       (cases_lt (position_or_len p row) (length row))

@@ -16,3 +16,6 @@ pub use inode::read_inode;
 pub use judged::{lookup_refusal_of, search_refusal_of};
 pub use laws::{a_directory_has_its_body, lookup_is_answered};
 pub use named::{NamedSlot, find_entry};
+
+#[cfg(test)]
+mod tests;

@@ -23,10 +23,7 @@ pub(crate) struct Hit {
 }
 
 /// Reads a sector of slots; there is none at block 0, or at or past the store's end.
-pub(crate) fn read_slots<S: Stable>(
-    store: &mut S,
-    block: u32,
-) -> Result<Option<[u8; 512]>, Failed>
+pub(crate) fn read_slots<S: Stable>(store: &mut S, block: u32) -> Result<Option<[u8; 512]>, Failed>
     ensures done { S.tells → block ≢ 0 → block < S.sector_count store.old → IfOk result (λ read. read ≡ Some (sector_at (S.image store.old) block)) }
     ensures within { IfOk result (λ read. IfSome read (λ _. block < S.sector_count store.old)) }
     ensures cause { HasCause (S.faults store.old) (S.faults store.new) result }

@@ -11,13 +11,7 @@ use v7_map::{attributes_of, find};
 
 /// Looks up a name in a directory, by its first slot of that name: the handle and the attributes of what it leads to. Each sector of the directory
 /// is read at most once. Nothing is changed.
-pub fn lookup<S: Stable>(
-    store: &mut S,
-    dir: FileId,
-    name: &Name,
-    cred: &Cred,
-    now: u32,
-) -> Outcome
+pub fn lookup<S: Stable>(store: &mut S, dir: FileId, name: &Name, cred: &Cred, now: u32) -> Outcome
     ensures applied { IsApplied S.Stable store.old store.new (Lookup dir name.now) cred.now now result }
     ensures looked { Looked S.Stable store.old store.new }
 {

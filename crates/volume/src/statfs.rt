@@ -21,13 +21,7 @@ fn data_blocks(sets: &Sets) -> u32
 }
 
 /// Tells how many data blocks the file's volume has, and how many of them are free. Nothing is changed.
-pub fn statfs<S: Stable>(
-    store: &mut S,
-    sets: &Sets,
-    file: FileId,
-    cred: &Cred,
-    now: u32,
-) -> Outcome
+pub fn statfs<S: Stable>(store: &mut S, sets: &Sets, file: FileId, cred: &Cred, now: u32) -> Outcome
     requires rest { RestsOn S.Stable store.old false sets.now }
     ensures applied { IsApplied S.Stable store.old store.new (Statfs file) cred.now now result }
     ensures looked { Looked S.Stable store.old store.new }

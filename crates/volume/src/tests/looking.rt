@@ -114,6 +114,14 @@ fn a_volume_tells_its_space(rt: HostRuntime) -> Result<(), Fail> {
     let (mut volume, _) = opened(alloc, store(alloc, 0)?)?;
     let call = Call::Statfs { file: FILE };
     let told = volume.apply(&call, &owner(), 2001);
-    assert!(rt; matches!(told, Outcome::Reply(Reply::Space { blocks: 60, free: 57 })));
+    assert!(rt;
+        matches!(
+            told,
+            Outcome::Reply(Reply::Space {
+                blocks: 60,
+                free: 57
+            })
+        )
+    );
     Ok(())
 }

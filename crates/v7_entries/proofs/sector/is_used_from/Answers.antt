@@ -14,4 +14,3 @@ loop-index-preserved c = λ k from lt. ⊎_elim
     ap (λ m. is_some (slot_in c.args.bytes.now m)) at ∙ used-slot (part c.args.bytes.now (16 * c.loop-index.index) 16)
     ∙ ap not (eq-eqb _ 0 (sym c.number_in.ensures ∙ c.if-number_in-ne0.false)))
     (cases_lt k c.loop-index.index)
-
