@@ -63,7 +63,12 @@ fn is_known(call: &Call) -> bool
 {
     matches!(
         call,
-        Call::Getattr { .. } | Call::Setattr { .. } | Call::Read { .. } | Call::Write { .. }
+        Call::Getattr { .. }
+            | Call::Setattr { .. }
+            | Call::Lookup { .. }
+            | Call::Read { .. }
+            | Call::Write { .. }
+            | Call::Statfs { .. }
     )
 }
 

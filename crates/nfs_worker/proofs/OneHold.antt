@@ -16,7 +16,7 @@ use Rattle.v7_map.specs.Frame.{frame}
 use Rattle.v7_map.specs.View.{view}
 use Rattle.v7_map.specs.Weak.{IsWeak}
 use Rattle.nfs2_wire.specs.Replies.{bytes_of, longest_of}
-use Rattle.nfs2_wire.proofs.Lengths.{short_fits, data_fits}
+use Rattle.nfs2_wire.proofs.Lengths.{short_fits, data_fits, answer_fits}
 use Rattle.volume.specs.declared.outcome.Outcome.TheVariants as outcome
 use Rattle.nfs_worker.specs.declared.releasing.Ready.{Ready}
 use Rattle.nfs_worker.specs.Account.{Grew}
@@ -38,6 +38,12 @@ reply_fits xid (call.Read file offset count) _ row form = absurd form
 reply_fits xid (call.Write file offset bytes) (reply.Refused status) row form = short_fits xid (reply.Refused status) 0 tt
 reply_fits xid (call.Write file offset bytes) (reply.Attr attr) row form = short_fits xid (reply.Attr attr) 0 tt
 reply_fits xid (call.Write file offset bytes) _ row form = absurd form
+reply_fits xid (call.Lookup dir name) (reply.Refused status) row form = answer_fits xid (call.Lookup dir name) (reply.Refused status) 0 tt
+reply_fits xid (call.Lookup dir name) (reply.Handle file attr) row form = answer_fits xid (call.Lookup dir name) (reply.Handle file attr) 0 tt
+reply_fits xid (call.Lookup dir name) _ row form = absurd form
+reply_fits xid (call.Statfs file) (reply.Refused status) row form = answer_fits xid (call.Statfs file) (reply.Refused status) 0 tt
+reply_fits xid (call.Statfs file) (reply.Space blocks free) row form = answer_fits xid (call.Statfs file) (reply.Space blocks free) 0 tt
+reply_fits xid (call.Statfs file) _ row form = absurd form
 reply_fits xid _ r row form = absurd (cc)
 
 pub refusal_fits : (xid : ℕ) (c : Call) → has_row c ≡ true → length (bytes_of xid (reply.Refused stat.Io) 0) ≤ longest_of c

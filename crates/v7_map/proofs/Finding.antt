@@ -21,6 +21,13 @@ read_only-read : (image : Image) → is_read_only (sector_at image 1) ≡ not ((
 unfolding super_of
 read_only-read image = refl
 
+-- what stands in its sector is the image's inode
+pub inode-read : (image : Image) (i : ℕ) (sector : List ℕ) (inode : Inode) → is_inode image i ≡ true → sector ≡ sector_at image (inode_sector i)
+    → inode ≡ inode_of (part sector (inode_offset i) 64) → inode ≡ inode_at image i
+unfolding inode_at
+inode-read image i sector inode is from read = read ∙ ap (λ s. inode_of (part s (inode_offset i) 64)) from
+    ∙ sym (ap (λ b. cond b (inode_of (part (sector_at image (inode_sector i)) (inode_offset i) 64)) (inode_of [])) is)
+
 module _ (image : Image) (strong : IsStrong (frame image)) where
   -- there is a super-block
   pub not_short : length image < 2 → ⊥
@@ -42,12 +49,6 @@ module _ (image : Image) (strong : IsStrong (frame image)) where
 
     pub not_outside : is_inode image file.ino ≡ true → length image ≤ inode_sector file.ino → ⊥
     not_outside is far = let inside = inode_sector-inside image strong.weak file.ino is in let below : inode_sector file.ino < length image = inside.2 in omega arith
-
-    pub inode-read : (sector : List ℕ) (inode : Inode) → is_inode image file.ino ≡ true → sector ≡ sector_at image (inode_sector file.ino)
-        → inode ≡ inode_of (part sector (inode_offset file.ino) 64) → inode ≡ inode_at image file.ino
-    unfolding inode_at
-    inode-read sector inode is from read = read ∙ ap (λ s. inode_of (part s (inode_offset file.ino) 64)) from
-        ∙ sym (ap (λ b. cond b (inode_of (part (sector_at image (inode_sector file.ino)) (inode_offset file.ino) 64)) (inode_of [])) is)
 
     standing : is_inode image file.ino ≡ true → (inode : Inode) → inode ≡ inode_at image file.ino → (b : Bool) → is_current inode file.generation ≡ b → is_standing image file ≡ b
     standing is inode read b current =

@@ -2,11 +2,14 @@ pub mod Applying
 pub mod Committing
 pub mod Counting
 pub mod GivenBack
+pub mod Idling
 pub mod HasVolume
 pub mod OpenMarks
+pub mod LookingUp
 pub mod Naming
 pub mod Reading
 pub mod Resting
 pub mod Setting
+pub mod Spaces
 pub mod Starts
 pub mod Stopping

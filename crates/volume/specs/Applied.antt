@@ -1,11 +1,13 @@
 -- What a call does to a volume on a store.
-use Rattle.std.specs.Prelude.{◌≡◌, ℕ, ◌≤◌, Bool, true, false, length, [], ◌∷◌}
+use Rattle.std.specs.Prelude.{◌≡◌, ℕ, ◌+◌, ◌≤◌, Bool, true, false, length, [], ◌∷◌}
+use Rattle.std.specs.List.{sum_by}
 use Rattle.files_model.specs.declared.call.Call.{Call}
 use Rattle.files_model.specs.declared.credential.Cred.{Cred}
 use Rattle.files_model.specs.declared.reply.Reply.{Reply}
 use Rattle.files_model.specs.declared.reply.Reply.TheVariants as reply
 use Rattle.files_model.specs.declared.call.Call.TheVariants as call
 use Rattle.files_model.specs.Files.{Files}
+use Rattle.files_model.specs.ReadingRows.{entry_size}
 use Rattle.files_model.specs.Step.{step, most_read, is_change}
 use Rattle.files_model.specs.Torn.{Torn}
 use Rattle.stable.specs.Counts.{Rose}
@@ -60,11 +62,17 @@ HasForm (call.Getattr file) (reply.Attr attr) = Unit {0}
 HasForm (call.Setattr file set) (reply.Attr attr) = Unit {0}
 HasForm (call.Read file offset count) (reply.Data attr bytes) = length bytes ≤ most_read
 HasForm (call.Write file offset bytes) (reply.Attr attr) = Unit {0}
+HasForm (call.Lookup dir name) (reply.Handle file attr) = Unit {0}
+HasForm (call.Readlink file) (reply.Text text) = length text ≤ 1024
+HasForm (call.Readdir dir cookie count) (reply.Entries list end) = 12 + sum_by entry_size list ≤ 8192
+HasForm (call.Statfs file) (reply.Space blocks free) = Unit {0}
 HasForm c r = ⊥
 
 -- the calls that take memory
 abbrev pub TakesMemory : Call → Type 0
 TakesMemory (call.Getattr file) = ⊥
+TakesMemory (call.Lookup dir name) = ⊥
+TakesMemory (call.Statfs file) = ⊥
 TakesMemory c = Unit {0}
 
 -- a reply has the form of its call's, and only what takes memory finds none, whatever the rig tells

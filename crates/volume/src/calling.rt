@@ -8,9 +8,11 @@ ghost use Rattle.volume.specs.Costs.{CostsAtMost, call_cost, most_puts};
 ghost use Rattle.volume.specs.Rests.{RestsOn};
 
 use crate::getattr::getattr;
+use crate::lookup::lookup;
 use crate::outcome::Outcome;
 use crate::read::read;
 use crate::setattr::setattr;
+use crate::statfs::statfs;
 use crate::write::write;
 use files_model::{Call, Cred};
 use stable::Stable;
@@ -73,6 +75,8 @@ pub fn make_call<S: Stable>(
             offset,
             bytes,
         } => write(alloc, store, sets, *file, *offset, bytes.bytes(), cred, now),
+        Call::Lookup { dir, name } => lookup(store, *dir, name, cred, now),
+        Call::Statfs { file } => statfs(store, sets, *file, cred, now),
         _ => unreachable!(),
     }
 }

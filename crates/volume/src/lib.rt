@@ -6,6 +6,7 @@ mod calling;
 mod fault;
 mod getattr;
 mod giving;
+mod lookup;
 mod marking;
 mod mounted;
 mod opening;
@@ -13,6 +14,7 @@ mod outcome;
 mod read;
 mod setattr;
 mod starting;
+mod statfs;
 mod write;
 
 pub use mounted::Volume;

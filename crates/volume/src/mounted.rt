@@ -116,8 +116,8 @@ impl<S: Tended> Volume<S> {
 
     /// Makes a call on the volume, all at this second; a hurt volume is mended first, which keeps its files. A reply is that of the call's
     /// step, and then there is nothing to mend. Io comes only where a device failed in the call; what was called may then be done in part,
-    /// and if it changes files the volume is hurt. NoMemory leaves the files as they were, and comes of a GETATTR only where the volume was
-    /// hurt.
+    /// and if it changes files the volume is hurt. NoMemory leaves the files as they were, and comes of a GETATTR, a LOOKUP
+    /// or a STATFS only where the volume was hurt.
     pub fn apply(&mut self, call: &Call, cred: &Cred, now: u32) -> Outcome
         requires row { has_row call.now ≡ true }
         requires rest { Rests S.Stable self.old }

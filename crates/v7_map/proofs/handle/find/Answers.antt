@@ -41,7 +41,7 @@ returns-then-not-is_current-clause-found g c = λ tells strong.
     let inside : is_inode image c.args.file.ino ≡ true = sym (c.has_inode.ensures ∙ number-read image strong c.read-super_block.result c.args.file.ino super) ∙ c.if-not-has_inode.false in
     let sector : c.in_ok-sector.sector ≡ sector_at image (inode_sector c.args.file.ino) =
     c.in_ok-sector.ensures.done tells ∙ (λ z. get_or (c.in_ok-get_sector.ensures.looked.image z) (c.inode_sector_of-place.ensures z) []) in
-    let read = inode-read image strong c.args.file c.in_ok-sector.sector c.inode_in-stored.result inside sector c.inode_in-stored.ensures.inode in
+    let read = inode-read image c.args.file.ino c.in_ok-sector.sector c.inode_in-stored.result inside sector c.inode_in-stored.ensures.inode in
     finds_stale image strong c.args.file inside c.inode_in-stored.result read (ap (λ (n : Inode). is_current n c.args.file.generation) (sym c.with_limits-inode.ensures) ∙ sym c.is_current.ensures ∙ c.if-not-is_current.true)
 
 pub returns-clause-found : goal.returns-clause-found
@@ -52,7 +52,7 @@ returns-clause-found g c = λ tells strong.
     let inside : is_inode image c.args.file.ino ≡ true = sym (c.has_inode.ensures ∙ number-read image strong c.read-super_block.result c.args.file.ino super) ∙ c.if-not-has_inode.false in
     let sector : c.in_ok-sector.sector ≡ sector_at image (inode_sector c.args.file.ino) =
     c.in_ok-sector.ensures.done tells ∙ (λ z. get_or (c.in_ok-get_sector.ensures.looked.image z) (c.inode_sector_of-place.ensures z) []) in
-    let read = inode-read image strong c.args.file c.in_ok-sector.sector c.inode_in-stored.result inside sector c.inode_in-stored.ensures.inode in
+    let read = inode-read image c.args.file.ino c.in_ok-sector.sector c.inode_in-stored.result inside sector c.inode_in-stored.ensures.inode in
     finds_file image strong c.args.file inside c.read-super_block.result super _ refl sector c.inode_in-stored.result read c.with_limits-inode.ensures (sym c.is_current.ensures ∙ c.if-not-is_current.false)
 
 pub returns-then-sectors-lt2-clause-looked : goal.returns-then-sectors-lt2-clause-looked

@@ -10,3 +10,13 @@ pub returns-in-Read-clause-snapshot : goal.returns-in-Read-clause-snapshot
 returns-in-Read-clause-snapshot g c =
     let looked = c.read.ensures.looked in
     cost_looked g.S.Stable g.met.S.Stable.counted c.args.store.now c.read.new.store _ _ looked.later looked.snapshot
+
+pub returns-in-Lookup-clause-snapshot : goal.returns-in-Lookup-clause-snapshot
+returns-in-Lookup-clause-snapshot g c =
+    let looked = c.lookup.ensures.looked in
+    cost_looked g.S.Stable g.met.S.Stable.counted c.args.store.now c.lookup.new.store _ _ looked.later looked.snapshot
+
+pub returns-in-Statfs-clause-snapshot : goal.returns-in-Statfs-clause-snapshot
+returns-in-Statfs-clause-snapshot g c =
+    let looked = c.statfs.ensures.looked in
+    cost_looked g.S.Stable g.met.S.Stable.counted c.args.store.now c.statfs.new.store _ _ looked.later looked.snapshot

@@ -1,0 +1,4 @@
+pub mod SectorSlots
+pub mod Directories
+pub mod Lookups
+pub mod BadNames
