@@ -1,0 +1,3 @@
+pub mod CreatingAccepted
+pub mod CreatingInPlace
+pub mod CreatingAtEnd

@@ -1,0 +1,6 @@
+//! Laws of plans of names: the calls that make and take away names.
+#![tactic(auto)]
+
+mod creating;
+
+pub use creating::{a_creation_at_the_end_is_planned, a_creation_in_place_is_planned, an_accepted_create_makes_a_file};
