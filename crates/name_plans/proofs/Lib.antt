@@ -1,3 +1,4 @@
 pub mod CreatingAccepted
 pub mod CreatingInPlace
 pub mod CreatingAtEnd
+pub mod Lengthening
