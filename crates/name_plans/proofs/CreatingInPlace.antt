@@ -222,3 +222,9 @@ module _ (image : Image) (asked : Asked) (now p : ℕ) (name : List ℕ) (d : No
         strong = strong_third;
         after = view_third;
       }
+
+      -- the times change the frame no more
+      pub create-frame : frame (set (set (set image (inode_sector i) b1) ((frame (set image (inode_sector i) b1)).address p (Body (place_for d.slots / 32))) b2) (inode_sector p) b3)
+          ≡ frame (set (set image (inode_sector i) b1) ((frame (set image (inode_sector i) b1)).address p (Body (place_for d.slots / 32))) b2)
+      unfolding third second first a
+      create-frame = frame_third

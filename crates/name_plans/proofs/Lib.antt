@@ -2,3 +2,5 @@ pub mod CreatingAccepted
 pub mod CreatingInPlace
 pub mod CreatingAtEnd
 pub mod Lengthening
+pub mod CreatingLonger
+pub mod CreatingSets

@@ -1,3 +1,4 @@
 pub mod Making
-pub mod CreatingPuts
 pub mod Lengthening
+pub mod CreatingPuts
+pub mod Taken

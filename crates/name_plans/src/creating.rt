@@ -1,26 +1,26 @@
 // What plans of creations leave of an image.
 
-ghost use Rattle.std.specs.Prelude.{◌≡◌, ◌≤◌, ◌/◌, ℕ, List, [], ◌∷◌, ◌++◌};
-ghost use Rattle.files_model.specs.Files.{Node, Slot, sectors_of};
-ghost use Rattle.files_model.specs.Names.{place_for, new_file};
+ghost use Rattle.std.specs.Prelude.{◌≡◌, ◌≢◌, ℕ, Bool, false, set, List, [], ◌∷◌, ◌++◌};
+ghost use Rattle.files_model.specs.Files.{Node};
+ghost use Rattle.files_model.specs.Names.{new_file};
 ghost use Rattle.files_model.specs.Torn.{Asked};
 ghost use Rattle.files_model.specs.declared.attributes.FileId.{FileId};
 ghost use Rattle.files_model.specs.declared.attributes.Sattr.{Sattr};
 ghost use Rattle.files_model.specs.declared.call.Call.TheVariants.{Create};
 ghost use Rattle.files_model.specs.declared.credential.Cred.{Cred};
-ghost use Rattle.name_plans.specs.CreatingPuts.{MakesInPlace, MakesAtEnd};
-ghost use Rattle.name_plans.specs.Lengthening.{PutsLonger};
+ghost use Rattle.name_plans.specs.CreatingPuts.{MakesInPlace, MakesAtEnd, MakesLonger, longer_image, longer_puts, in_place_puts};
 ghost use Rattle.name_plans.specs.Making.{IsCreation, IsMaking};
+ghost use Rattle.name_plans.specs.Taken.{taken, AreNewBlocks, HasNoBlocks};
+ghost use Rattle.stable.specs.Puts.{put_all};
 ghost use Rattle.stable.specs.Store.{Image};
 ghost use Rattle.v7_layout.specs.declared.inode.Inode.{Inode};
-ghost use Rattle.v7_map.specs.Frame.{Place, Body, frame};
+ghost use Rattle.v7_map.specs.Frame.{Place, frame};
 ghost use Rattle.v7_map.specs.Plans.{IsPlanOf};
 ghost use Rattle.v7_map.specs.View.{view};
 ghost use Rattle.v7_map.specs.Weak.{IsStrong};
 ghost use Rattle.v7_plans.specs.Setting.{put_inode};
-ghost use Rattle.v7_plans.specs.Quiet.{AllMuted};
-ghost use Rattle.v7_strokes.specs.Slots.{Appends};
-ghost use Rattle.v7_strokes.specs.Entries.{entry_sector, inode_put};
+ghost use Rattle.v7_sets.specs.Sets.{AreSetsOf};
+ghost use Rattle.v7_strokes.specs.Entries.{inode_put};
 
 /// An accepted CREATE of a name that is free makes a new file (RFC 1094 2.2.10).
 pub fn an_accepted_create_makes_a_file()
@@ -32,7 +32,7 @@ pub fn an_accepted_create_makes_a_file()
 /// the call but for the generation of the new i-number, or those after it but for the directory's times.
 pub fn a_creation_in_place_is_planned()
     ensures { (image : Image) (asked : Asked) (now p : ℕ) (name : List ℕ) (d : Node) (i : ℕ) (m : Node) (n : Inode) (b1 b2 b3 : List ℕ) → IsStrong (frame image) → MakesInPlace image asked now p name d i m n b1 b2 b3
-        → IsPlanOf image (asked ∷ []) now (inode_put i b1 ∷ (entry_sector (put_inode image i b1) p (place_for d.slots), b2) ∷ inode_put p b3 ∷ []) }
+        → IsPlanOf image (asked ∷ []) now (in_place_puts image p d i b1 b2 b3) }
 {}
 
 /// A new file whose entry makes its directory longer: its inode, the sector of the new slot and what else stands nowhere yet, and the directory's inode,
@@ -42,9 +42,27 @@ pub fn a_creation_at_the_end_is_planned()
         → IsPlanOf image (asked ∷ []) now (inode_put i b1 ∷ (inner ++ inode_put p b3 ∷ [])) }
 {}
 
-/// A directory may get longer by a slot.
-pub fn a_directory_may_get_longer()
-    ensures { (image : Image) (d k now : ℕ) (s : Slot) (target : Place → ℕ) (bytes : List ℕ) (maps : List (ℕ × List ℕ)) (direct : List ℕ) (single : ℕ)
-        → Appends image d k s → ((l : ℕ) → sectors_of ((frame image).head d).size ≤ l → (frame image).address d (Body l) ≡ 0) → PutsLonger image d k s target bytes maps direct single
-        → AllMuted d ((target (Body (k / 32)), bytes) ∷ maps) image }
+/// A new file whose entry makes its directory longer, by the blocks where the directory's are to stand: its inode, the new slot's sector, in the last
+/// one or in a new block, the block of addresses if it changes, and the directory's inode. Afterwards the directory's blocks stand there, and all
+/// others where they stood after the first put.
+pub fn a_creation_with_new_blocks_is_planned()
+    ensures planned { (image : Image) (asked : Asked) (now p : ℕ) (name : List ℕ) (d : Node) (i : ℕ) (m : Node) (n : Inode) (target : Place → ℕ) (b1 b2 : List ℕ) (maps : List (ℕ × List ℕ)) (direct : List ℕ) (single : ℕ) (b3 : List ℕ)
+        → IsStrong (frame image) → MakesLonger image asked now p name d i m n target b1 b2 maps direct single b3
+        → IsPlanOf image (asked ∷ []) now (longer_puts p d i target b1 b2 maps b3) }
+    ensures own_blocks { (image : Image) (asked : Asked) (now p : ℕ) (name : List ℕ) (d : Node) (i : ℕ) (m : Node) (n : Inode) (target : Place → ℕ) (b1 b2 : List ℕ) (maps : List (ℕ × List ℕ)) (direct : List ℕ) (single : ℕ) (b3 : List ℕ)
+        → IsStrong (frame image) → MakesLonger image asked now p name d i m n target b1 b2 maps direct single b3
+        → (r : Place) → (frame (put_inode (longer_image image d i target b1 b2 maps) p b3)).address p r ≡ target r }
+    ensures other_blocks { (image : Image) (asked : Asked) (now p : ℕ) (name : List ℕ) (d : Node) (i : ℕ) (m : Node) (n : Inode) (target : Place → ℕ) (b1 b2 : List ℕ) (maps : List (ℕ × List ℕ)) (direct : List ℕ) (single : ℕ) (b3 : List ℕ)
+        → IsStrong (frame image) → MakesLonger image asked now p name d i m n target b1 b2 maps direct single b3
+        → (j : ℕ) → j ≢ p → (r : Place) → (frame (put_inode (longer_image image d i target b1 b2 maps) p b3)).address j r ≡ (frame (put_inode image i b1)).address j r }
+{}
+
+/// After a creation of a file without blocks the sets of what is free stay exact once its i-number is taken, and with it the new blocks of its
+/// directory.
+pub fn the_sets_follow_a_creation()
+    ensures in_place { (image : Image) (asked : Asked) (now p : ℕ) (name : List ℕ) (d : Node) (i : ℕ) (m : Node) (n : Inode) (b1 b2 b3 : List ℕ) → IsStrong (frame image) → MakesInPlace image asked now p name d i m n b1 b2 b3 → HasNoBlocks image n
+        → (blocks inodes : List Bool) → AreSetsOf image blocks inodes → AreSetsOf (put_all (in_place_puts image p d i b1 b2 b3) image) blocks (set inodes i false) }
+    ensures longer { (image : Image) (asked : Asked) (now p : ℕ) (name : List ℕ) (d : Node) (i : ℕ) (m : Node) (n : Inode) (target : Place → ℕ) (b1 b2 : List ℕ) (maps : List (ℕ × List ℕ)) (direct : List ℕ) (single : ℕ) (b3 : List ℕ)
+        → IsStrong (frame image) → MakesLonger image asked now p name d i m n target b1 b2 maps direct single b3 → HasNoBlocks image n → (new : List ℕ) → AreNewBlocks (frame (put_inode image i b1)) p target new
+        → (blocks inodes : List Bool) → AreSetsOf image blocks inodes → AreSetsOf (put_all (longer_puts p d i target b1 b2 maps b3) image) (taken new blocks) (set inodes i false) }
 {}
