@@ -4,3 +4,6 @@ pub mod CreatingAtEnd
 pub mod Lengthening
 pub mod CreatingLonger
 pub mod CreatingSets
+pub mod RemovingAccepted
+pub mod RemovingPlan
+pub mod RemovingSets

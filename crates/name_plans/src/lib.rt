@@ -2,5 +2,7 @@
 #![tactic(auto)]
 
 mod creating;
+mod removing;
 
 pub use creating::{a_creation_at_the_end_is_planned, a_creation_in_place_is_planned, an_accepted_create_makes_a_file};
+pub use removing::{a_removal_is_planned, the_sets_follow_a_removal};
