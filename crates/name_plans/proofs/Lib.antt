@@ -4,3 +4,4 @@ pub mod CreatingAtEnd
 pub mod Lengthening
 pub mod CreatingLonger
 pub mod CreatingSets
+pub mod CreatingStanding

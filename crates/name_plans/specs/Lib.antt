@@ -2,3 +2,4 @@ pub mod Making
 pub mod Lengthening
 pub mod CreatingPuts
 pub mod Taken
+pub mod Standing
