@@ -7,3 +7,4 @@ pub mod CreatingSets
 pub mod RemovingAccepted
 pub mod RemovingPlan
 pub mod RemovingSets
+pub mod CreatingStanding

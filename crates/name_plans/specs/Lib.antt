@@ -4,3 +4,4 @@ pub mod CreatingPuts
 pub mod Taken
 pub mod Removing
 pub mod Removed
+pub mod Standing

@@ -1,15 +1,17 @@
 // What plans of creations leave of an image.
 
-ghost use Rattle.std.specs.Prelude.{◌≡◌, ◌≢◌, ℕ, Bool, false, set, List, [], ◌∷◌, ◌++◌};
+ghost use Rattle.std.specs.Prelude.{◌≡◌, ◌≢◌, ℕ, Bool, false, set, List, [], ◌∷◌, ◌++◌, Some};
 ghost use Rattle.files_model.specs.Files.{Node};
-ghost use Rattle.files_model.specs.Names.{new_file};
+ghost use Rattle.files_model.specs.Names.{handle_of, new_file, size_alone};
+ghost use Rattle.files_model.specs.Step.{step};
 ghost use Rattle.files_model.specs.Torn.{Asked};
 ghost use Rattle.files_model.specs.declared.attributes.FileId.{FileId};
 ghost use Rattle.files_model.specs.declared.attributes.Sattr.{Sattr};
-ghost use Rattle.files_model.specs.declared.call.Call.TheVariants.{Create};
+ghost use Rattle.files_model.specs.declared.call.Call.TheVariants.{Create, Setattr};
 ghost use Rattle.files_model.specs.declared.credential.Cred.{Cred};
 ghost use Rattle.name_plans.specs.CreatingPuts.{MakesInPlace, MakesAtEnd, MakesLonger, longer_image, longer_puts, in_place_puts};
 ghost use Rattle.name_plans.specs.Making.{IsCreation, IsMaking};
+ghost use Rattle.name_plans.specs.Standing.{StandsAlready, with_handle};
 ghost use Rattle.name_plans.specs.Taken.{taken, AreNewBlocks, HasNoBlocks};
 ghost use Rattle.stable.specs.Puts.{put_all};
 ghost use Rattle.stable.specs.Store.{Image};
@@ -65,4 +67,13 @@ pub fn the_sets_follow_a_creation()
     ensures longer { (image : Image) (asked : Asked) (now p : ℕ) (name : List ℕ) (d : Node) (i : ℕ) (m : Node) (n : Inode) (target : Place → ℕ) (b1 b2 : List ℕ) (maps : List (ℕ × List ℕ)) (direct : List ℕ) (single : ℕ) (b3 : List ℕ)
         → IsStrong (frame image) → MakesLonger image asked now p name d i m n target b1 b2 maps direct single b3 → HasNoBlocks image n → (new : List ℕ) → AreNewBlocks (frame (put_inode image i b1)) p target new
         → (blocks inodes : List Bool) → AreSetsOf image blocks inodes → AreSetsOf (put_all (longer_puts p d i target b1 b2 maps b3) image) (taken new blocks) (set inodes i false) }
+{}
+
+/// A CREATE with a set size, of a name that a regular file has, is a SETATTR of that size alone: the same refusals, the same files, the same plan. Its
+/// answer has the file's handle.
+pub fn a_create_of_a_standing_file_sets_its_size()
+    ensures step { (image : Image) (dir : FileId) (name : List ℕ) (wanted : Sattr) (cred : Cred) (now : ℕ) (d : Node) (k i : ℕ) (n : Node) (size : ℕ) → IsStrong (frame image) → StandsAlready (view image) dir name wanted d k i n → wanted.size ≡ Some size
+        → step (view image) (Create dir name wanted) cred now ≡ (with_handle (handle_of (view image) i) (step (view image) (Setattr (handle_of (view image) i) (size_alone size)) cred now).0, (step (view image) (Setattr (handle_of (view image) i) (size_alone size)) cred now).1) }
+    ensures plan { (image : Image) (dir : FileId) (name : List ℕ) (wanted : Sattr) (cred : Cred) (now : ℕ) (d : Node) (k i : ℕ) (n : Node) (size : ℕ) → IsStrong (frame image) → StandsAlready (view image) dir name wanted d k i n → wanted.size ≡ Some size
+        → (puts : List (ℕ × List ℕ)) → IsPlanOf image ((Setattr (handle_of (view image) i) (size_alone size), cred) ∷ []) now puts → IsPlanOf image ((Create dir name wanted, cred) ∷ []) now puts }
 {}

@@ -15,6 +15,7 @@ mod set_plan;
 mod shorter;
 mod started;
 
+pub use attributes::id_of;
 pub use batch_plan::{PlanFault, Planned, plan_writes};
 pub use laws::batch_is_planned;
 pub use places::{Places, file_places};

@@ -3,6 +3,15 @@ use Rattle.std.specs.Prelude.{◌≡◌, ℕ, ◌-◌, ◌≤◌, ◌<◌, Bool,
 use Rattle.std.specs.List.{AllByRecursion}
 use Rattle.stable.specs.Store.{Image}
 
+-- what a plan is seen as: its puts in order, and how many it has room for
+pub record Reserved : Type 0 where
+  pub puts : List (ℕ × List ℕ)
+  pub room : ℕ
+
+-- a plan with these puts, and as much room
+abbrev pub with_puts : Reserved → List (ℕ × List ℕ) → Reserved
+with_puts plan puts = record { puts = puts; room = plan.room }
+
 -- the image after puts in order
 abbrev pub put_all : List (ℕ × List ℕ) → Image → Image
 put_all [] image = image

@@ -1,4 +1,4 @@
-//! A plan of as many sectors as one takes.
+//! A plan of as many sectors as it has room for.
 
 use crate::Plan;
 use std::test::Fail;
@@ -11,17 +11,18 @@ fn put_of(index: u32) -> (u32, [u8; 512]) {
 // Adds puts as long as the plan takes one more.
 fn fill(plan: &mut Plan) {
     for index in 0..=420 {
-        if plan.puts().len() < Plan::MOST {
+        if plan.puts().len() < plan.room() {
             let put = put_of(index);
             plan.add(put.0, &put.1);
         }
     }
 }
 
-// Whether a plan is as `fill` makes it of an empty one.
-fn is_filled(plan: &Plan) -> bool {
+// Whether a plan is as `fill` makes it of an empty one with room for so many.
+fn is_filled(plan: &Plan, room: usize) -> bool {
     let puts = plan.puts();
-    puts.len() == 420
+    plan.room() == room
+        && puts.len() == room
         && puts
             .iter()
             .zip(0..)
@@ -29,14 +30,19 @@ fn is_filled(plan: &Plan) -> bool {
 }
 
 #[test]
-fn a_plan_takes_420_sectors_and_again_after_it_was_cleared(rt: HostRuntime) -> Result<(), Fail> {
-    let mut plan = Plan::new(rt.alloc()).map_err(|_| "memory")?;
-    assert!(rt; plan.puts().is_empty());
-    fill(&mut plan);
-    assert!(rt; is_filled(&plan));
-    plan.clear();
-    assert!(rt; plan.puts().is_empty());
-    fill(&mut plan);
-    assert!(rt; is_filled(&plan));
+fn a_plan_takes_as_many_sectors_as_it_has_room_for_and_again_after_it_was_cleared(
+    rt: HostRuntime,
+) -> Result<(), Fail> {
+    assert!(rt; is_filled(&Plan::empty(rt.alloc()), 0));
+    for room in [0, 1, 3, 27, Plan::MOST] {
+        let mut plan = Plan::new(rt.alloc(), room).map_err(|_| "memory")?;
+        assert!(rt; plan.puts().is_empty());
+        fill(&mut plan);
+        assert!(rt; is_filled(&plan, room), "room for {room}");
+        plan.clear();
+        assert!(rt; plan.puts().is_empty());
+        fill(&mut plan);
+        assert!(rt; is_filled(&plan, room), "room for {room}");
+    }
     Ok(())
 }

@@ -13,9 +13,9 @@ use std::test::Fail;
 
 // Four puts, two of them of sector 3.
 fn four_puts(alloc: Global) -> Result<Plan, NoMemory>
-    ensures { IfOk result (λ plan. AllStand 4 plan) }
+    ensures { IfOk result (λ plan. AllStand 4 plan.puts) }
 {
-    let mut plan = Plan::new(alloc)?;
+    let mut plan = Plan::new(alloc, 4)?;
     plan.add(3, &[1; 512]);
     plan.add(1, &[2; 512]);
     plan.add(3, &[3; 512]);

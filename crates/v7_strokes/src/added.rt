@@ -3,7 +3,7 @@
 ghost use Rattle.std.specs.Prelude.{◌≡◌, ◌<◌, ◌+◌, ◌^◌, ◌++◌, ◌∷◌, [], length, true, IfOk, OnErr, if◌then◌else◌};
 ghost use Rattle.stable.specs.Counts.{HasCause};
 ghost use Rattle.stable.specs.Looked.{Looked};
-ghost use Rattle.stable.specs.Puts.{put_all, with_put};
+ghost use Rattle.stable.specs.Puts.{put_all, with_put, with_puts};
 ghost use Rattle.v7_layout.specs.Written.{AddressesFit};
 ghost use Rattle.v7_map.specs.Image.{sector_at, is_inode, inode_at, inode_sector};
 ghost use Rattle.v7_map.specs.Plan.{PutsInode};
@@ -20,7 +20,7 @@ use v7_map::{inode_in, inode_sector_of};
 /// The inode of this number as it will be after the plan so far. Nothing is changed.
 pub fn planned_inode<S: Stable>(store: &mut S, plan: &Plan, ino: u32) -> Result<Inode, Failed>
     requires { inode_sector ino < S.sector_count store.old }
-    ensures inode { S.tells → is_inode (put_all plan.now (S.image store.old)) ino ≡ true → IfOk result (λ inode. inode ≡ inode_at (put_all plan.now (S.image store.old)) ino) }
+    ensures inode { S.tells → is_inode (put_all plan.now.puts (S.image store.old)) ino ≡ true → IfOk result (λ inode. inode ≡ inode_at (put_all plan.now.puts (S.image store.old)) ino) }
     ensures fits { IfOk result (λ inode. AddressesFit inode) }
     ensures cause { HasCause (S.faults store.old) (S.faults store.new) result }
     ensures looked { Looked S.Stable store.old store.new }
@@ -37,11 +37,11 @@ pub fn add_inode<S: Stable>(
     ino: u32,
     inode: &Inode,
 ) -> Result<[u8; 512], Failed>
-    requires room { length plan.old < 420 }
+    requires room { length plan.old.puts < plan.old.room }
     requires place { inode_sector ino < S.sector_count store.old }
     requires fits { AddressesFit inode.now }
-    ensures added { IfOk result (λ bytes. plan.new ≡ with_put plan.old (inode_sector ino, bytes)) }
-    ensures put { S.tells → is_inode (put_all plan.old (S.image store.old)) ino ≡ true → IfOk result (λ bytes. PutsInode (put_all plan.old (S.image store.old)) ino bytes inode.now) }
+    ensures added { IfOk result (λ bytes. plan.new ≡ with_puts plan.old (with_put plan.old.puts (inode_sector ino, bytes))) }
+    ensures put { S.tells → is_inode (put_all plan.old.puts (S.image store.old)) ino ≡ true → IfOk result (λ bytes. PutsInode (put_all plan.old.puts (S.image store.old)) ino bytes inode.now) }
     ensures kept { OnErr result (plan.new ≡ plan.old) }
     ensures cause { HasCause (S.faults store.old) (S.faults store.new) result }
     ensures looked { Looked S.Stable store.old store.new }
@@ -62,10 +62,10 @@ pub fn add_slot<S: Stable>(
     index: u32,
     slot: &Slot,
 ) -> Result<[u8; 512], Failed>
-    requires room { length plan.old < 420 }
+    requires room { length plan.old.puts < plan.old.room }
     requires place { place < S.sector_count store.old }
-    ensures added { IfOk result (λ bytes. plan.new ≡ plan.old ++ (place, bytes) ∷ []) }
-    ensures put { S.tells → IfOk result (λ bytes. PutsSlot (sector_at (put_all plan.old (S.image store.old)) place) index bytes (slot_from slot.now)) }
+    ensures added { IfOk result (λ bytes. plan.new ≡ with_puts plan.old (plan.old.puts ++ (place, bytes) ∷ [])) }
+    ensures put { S.tells → IfOk result (λ bytes. PutsSlot (sector_at (put_all plan.old.puts (S.image store.old)) place) index bytes (slot_from slot.now)) }
     ensures kept { OnErr result (plan.new ≡ plan.old) }
     ensures cause { HasCause (S.faults store.old) (S.faults store.new) result }
     ensures looked { Looked S.Stable store.old store.new }
@@ -84,10 +84,10 @@ pub fn add_times<S: Stable>(
     ino: u32,
     now: u32,
 ) -> Result<[u8; 512], Failed>
-    requires room { length plan.old < 420 }
+    requires room { length plan.old.puts < plan.old.room }
     requires place { inode_sector ino < S.sector_count store.old }
-    ensures added { IfOk result (λ bytes. plan.new ≡ with_put plan.old (inode_sector ino, bytes)) }
-    ensures put { S.tells → is_inode (put_all plan.old (S.image store.old)) ino ≡ true → IfOk result (λ bytes. PutsInode (put_all plan.old (S.image store.old)) ino bytes (timed_inode (inode_at (put_all plan.old (S.image store.old)) ino) now)) }
+    ensures added { IfOk result (λ bytes. plan.new ≡ with_puts plan.old (with_put plan.old.puts (inode_sector ino, bytes))) }
+    ensures put { S.tells → is_inode (put_all plan.old.puts (S.image store.old)) ino ≡ true → IfOk result (λ bytes. PutsInode (put_all plan.old.puts (S.image store.old)) ino bytes (timed_inode (inode_at (put_all plan.old.puts (S.image store.old)) ino) now)) }
     ensures kept { OnErr result (plan.new ≡ plan.old) }
     ensures cause { HasCause (S.faults store.old) (S.faults store.new) result }
     ensures looked { Looked S.Stable store.old store.new }
@@ -110,10 +110,10 @@ pub fn add_unlinked<S: Stable>(
     last: bool,
     now: u32,
 ) -> Result<[u8; 512], Failed>
-    requires room { length plan.old < 420 }
+    requires room { length plan.old.puts < plan.old.room }
     requires place { inode_sector ino < S.sector_count store.old }
-    ensures added { IfOk result (λ bytes. plan.new ≡ with_put plan.old (inode_sector ino, bytes)) }
-    ensures put { S.tells → is_inode (put_all plan.old (S.image store.old)) ino ≡ true → IfOk result (λ bytes. PutsInode (put_all plan.old (S.image store.old)) ino bytes (if last then ended_inode (inode_at (put_all plan.old (S.image store.old)) ino).generation else unlinked_inode (inode_at (put_all plan.old (S.image store.old)) ino) now)) }
+    ensures added { IfOk result (λ bytes. plan.new ≡ with_puts plan.old (with_put plan.old.puts (inode_sector ino, bytes))) }
+    ensures put { S.tells → is_inode (put_all plan.old.puts (S.image store.old)) ino ≡ true → IfOk result (λ bytes. PutsInode (put_all plan.old.puts (S.image store.old)) ino bytes (if last then ended_inode (inode_at (put_all plan.old.puts (S.image store.old)) ino).generation else unlinked_inode (inode_at (put_all plan.old.puts (S.image store.old)) ino) now)) }
     ensures kept { OnErr result (plan.new ≡ plan.old) }
     ensures cause { HasCause (S.faults store.old) (S.faults store.new) result }
     ensures looked { Looked S.Stable store.old store.new }
@@ -131,11 +131,11 @@ pub fn add_longer<S: Stable>(
     blocks: &Blocks,
     now: u32,
 ) -> Result<[u8; 512], Failed>
-    requires room { length plan.old < 420 }
+    requires room { length plan.old.puts < plan.old.room }
     requires place { inode_sector ino < S.sector_count store.old }
     requires fits { BlocksFit blocks.now }
-    ensures added { IfOk result (λ bytes. plan.new ≡ with_put plan.old (inode_sector ino, bytes)) }
-    ensures put { S.tells → is_inode (put_all plan.old (S.image store.old)) ino ≡ true → (inode_at (put_all plan.old (S.image store.old)) ino).size + 16 < 2 ^ 32 → IfOk result (λ bytes. PutsInode (put_all plan.old (S.image store.old)) ino bytes (longer_inode (inode_at (put_all plan.old (S.image store.old)) ino) blocks.now.direct blocks.now.single now)) }
+    ensures added { IfOk result (λ bytes. plan.new ≡ with_puts plan.old (with_put plan.old.puts (inode_sector ino, bytes))) }
+    ensures put { S.tells → is_inode (put_all plan.old.puts (S.image store.old)) ino ≡ true → (inode_at (put_all plan.old.puts (S.image store.old)) ino).size + 16 < 2 ^ 32 → IfOk result (λ bytes. PutsInode (put_all plan.old.puts (S.image store.old)) ino bytes (longer_inode (inode_at (put_all plan.old.puts (S.image store.old)) ino) blocks.now.direct blocks.now.single now)) }
     ensures kept { OnErr result (plan.new ≡ plan.old) }
     ensures cause { HasCause (S.faults store.old) (S.faults store.new) result }
     ensures looked { Looked S.Stable store.old store.new }

@@ -34,7 +34,7 @@ pub fn planned_sector<S: Stable>(
     sector: u32,
 ) -> Result<[u8; 512], Failed>
     requires { sector < S.sector_count store.old }
-    ensures done { S.tells → IfOk result (λ bytes. bytes ≡ get_or (put_all plan.now (S.image store.old)) sector []) }
+    ensures done { S.tells → IfOk result (λ bytes. bytes ≡ get_or (put_all plan.now.puts (S.image store.old)) sector []) }
     ensures cause { HasCause (S.faults store.old) (S.faults store.new) result }
     ensures looked { Looked S.Stable store.old store.new }
 {

@@ -19,7 +19,7 @@ fn volume(alloc: Global) -> Result<Memory, Fail> {
 
 // The name of file 3 is taken away at second 2000, and with it the file.
 fn take<S: Stable>(store: &mut S, plan: &mut Plan) -> Result<(), Failed> {
-    if store.sectors() < 64 || plan.puts().len() > 400 {
+    if store.sectors() < 64 || plan.puts().len() + 3 > plan.room() {
         return Err(Failed);
     }
     add_slot(store, plan, 4, 2, &empty_slot())?;
@@ -32,7 +32,7 @@ fn take<S: Stable>(store: &mut S, plan: &mut Plan) -> Result<(), Failed> {
 fn a_name_and_its_file_are_taken_away(rt: HostRuntime) -> Result<(), Fail> {
     let alloc = rt.alloc();
     let mut store = volume(alloc)?;
-    let mut plan = Plan::new(alloc).map_err(|_| "memory")?;
+    let mut plan = Plan::new(alloc, 3).map_err(|_| "memory")?;
     take(&mut store, &mut plan).map_err(|_| "store")?;
     let puts = plan.puts();
     assert!(rt; puts.len() == 2);
@@ -49,7 +49,7 @@ fn a_name_and_its_file_are_taken_away(rt: HostRuntime) -> Result<(), Fail> {
 
 // The root's fourth slot names file 9, and then file 3 loses a name of two.
 fn name<S: Stable>(store: &mut S, plan: &mut Plan) -> Result<Inode, Failed> {
-    if store.sectors() < 64 || plan.puts().len() > 400 {
+    if store.sectors() < 64 || plan.puts().len() + 3 > plan.room() {
         return Err(Failed);
     }
     add_slot(store, plan, 4, 3, &slot_of(9, b"new"))?;
@@ -63,7 +63,7 @@ fn name<S: Stable>(store: &mut S, plan: &mut Plan) -> Result<Inode, Failed> {
 fn what_a_plan_puts_is_read_again(rt: HostRuntime) -> Result<(), Fail> {
     let alloc = rt.alloc();
     let mut store = volume(alloc)?;
-    let mut plan = Plan::new(alloc).map_err(|_| "memory")?;
+    let mut plan = Plan::new(alloc, 3).map_err(|_| "memory")?;
     let inode = name(&mut store, &mut plan).map_err(|_| "store")?;
     assert!(rt;
         inode.nlink == 1 && inode.ctime == 3000 && inode.mtime == 1000 && inode.direct[1] == 6

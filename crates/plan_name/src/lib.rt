@@ -1,0 +1,10 @@
+//! Plans of calls that make and take away names.
+#![tactic(auto)]
+
+mod growth;
+mod names;
+mod new_node;
+
+pub use growth::added_blocks;
+pub use names::{create_refusal, entry_refusal, name_refusal, standing_refusal};
+pub use new_node::new_file;
