@@ -222,14 +222,15 @@ module _ (image : Image) (dir : FileId) (name : List ℕ) (cred : Cred) (now : �
     unfolding a
     inside = entry-inside image dir.ino k ((frame image).address dir.ino (Body (k / 32))) b1 None strong.weak entry
 
-    past : 2 ≤ a
-    past = let r = inside in let low' : 3 ≤ a = r.0 in omega arith
+    pub removal-past_list : 2 ≤ (frame image).address dir.ino (Body (k / 32))
+    unfolding a
+    removal-past_list = let r = inside in let low' : 3 ≤ a = r.0 in omega arith
 
   module _ (before after : List ℕ) (b1 : List ℕ) (bs cs : List (List ℕ)) (b : List ℕ) (x : TakesName image now dir.ino k i n before after b1 bs cs b) where
     finish : Finish image (call.Remove dir name, cred) now i n refl (lost_after b1 x.entry) image (removing_puts image dir.ino k i before after b1 bs cs b)
     unfolding inside a first
     finish = finish-cons image (call.Remove dir name, cred) now i n refl (lost_after b1 x.entry) image ((frame image).address dir.ino (Body (k / 32))) b1 (inode_puts before bs ++ inode_put i b ∷ inode_puts after cs)
-        (record { weak = strong.weak; torn = inl refl }) (past b1 x.entry) (inside b1 x.entry).1 x.entry.long
+        (record { weak = strong.weak; torn = inl refl }) (removal-past_list b1 x.entry) (inside b1 x.entry).1 x.entry.long
         (finish-unsettled image (call.Remove dir name, cred) now i n refl (lost_after b1 x.entry) before after bs cs b (first b1 x.entry)
         (all_first (λ d. (z : Node) × IsTimed (after_calls (view image) ((call.Remove dir name, cred) ∷ []) now) now d z) before after (subst (AllByRecursion (λ d. (z : Node) × IsTimed (after_calls (view image) ((call.Remove dir name, cred) ∷ []) now) now d z)) (sym x.one) (all_timed b1 x.entry)))
         (all_first (λ d. i ≢ d) before after (subst (AllByRecursion (λ d. i ≢ d)) (sym x.one) (all_apart b1 x.entry)))

@@ -4,7 +4,9 @@
 mod growth;
 mod names;
 mod new_node;
+mod removing_puts;
 
 pub use growth::added_blocks;
 pub use names::{create_refusal, entry_refusal, name_refusal, standing_refusal};
 pub use new_node::new_file;
+pub use removing_puts::{Taking, add_removal};
