@@ -1,10 +1,10 @@
 //! Plans of calls that make and take away names.
 #![tactic(auto)]
 
+mod creating_puts;
 mod growth;
 mod names;
-mod new_node;
 
+pub use creating_puts::{Entry, add_in_place};
 pub use growth::added_blocks;
 pub use names::{create_refusal, entry_refusal, name_refusal, standing_refusal};
-pub use new_node::new_file;
