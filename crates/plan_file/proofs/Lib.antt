@@ -27,3 +27,5 @@ pub mod Giving
 pub mod Storing
 pub mod Zeroed
 pub mod SetDone
+mod Touching
+mod SetPuts

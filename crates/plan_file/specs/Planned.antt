@@ -1,5 +1,5 @@
 -- The plan of a batch, and what is known before it is put together.
-use Rattle.std.specs.Prelude.{◌≡◌, ◌≢◌, ◌<◌, ◌≤◌, ℕ, min, true, List, [], ◌∷◌, ◌++◌, length, get_or}
+use Rattle.std.specs.Prelude.{◌≡◌, ◌≢◌, ◌<◌, ◌≤◌, ℕ, ◌+◌, min, true, List, [], ◌∷◌, ◌++◌, length, get_or}
 use Rattle.std.specs.List.{AllByRecursion, range_with_len, list_any}
 use Rattle.files_model.specs.declared.attributes.Attr.{Attr}
 use Rattle.files_model.specs.declared.attributes.FileId.{FileId}
@@ -8,7 +8,7 @@ use Rattle.files_model.specs.declared.reply.Reply.{Reply}
 use Rattle.files_model.specs.declared.reply.Reply.TheVariants as reply
 use Rattle.files_model.specs.Batch.{calls_of, replies_of, cost, touches}
 use Rattle.files_model.specs.Space.{size_limit}
-use Rattle.stable.specs.Puts.{put_all, AllStand, AllPastSuperBlock}
+use Rattle.stable.specs.Puts.{Reserved, put_all, AllStand, AllPastSuperBlock}
 use Rattle.stable.specs.Store.{Image}
 use Rattle.v7_map.specs.Image.{inode_sector}
 use Rattle.v7_map.specs.Plans.{IsPlanOf}
@@ -17,7 +17,8 @@ use Rattle.v7_map.specs.declared.found.Found.{Found}
 use Rattle.v7_sets.specs.Sets.{AreSetsOf}
 use Rattle.v7_sets.specs.declared.sets.Sets.{Sets}
 use Rattle.plan_file.specs.declared.places.Places.{Places}
-use Rattle.plan_file.specs.Contents.{cut_puts, content_puts, MapPuts}
+use Rattle.plan_file.specs.Accepted.{kept_of}
+use Rattle.plan_file.specs.Contents.{cut_puts, content_puts, touched_below, MapPuts}
 use Rattle.plan_file.specs.Found.{ReplacesInode}
 use Rattle.plan_file.specs.Grown.{grown_inode, AreDirect}
 use Rattle.plan_file.specs.Places.{AreWithin}
@@ -45,10 +46,15 @@ IsWriteReply (reply.Refused status) = Unit {0}
 IsWriteReply (reply.Attr attr) = Unit {0}
 IsWriteReply _ = ⊥
 
--- Of any store, told or not: the plan can be put, and each write has its reply.
-pub record HasAnswers (sectors count : ℕ) (puts : List (ℕ × List ℕ)) (replies : List Reply) : Type 0 where
-  pub plan : CanBePut sectors puts
-  pub count_is : length replies ≡ count
+-- how many puts accepted writes can need: each sector that they touch, the old last one, the block of addresses and the inode
+abbrev pub room_for : List WriteItem → ℕ
+room_for ws = touched_below ws 138 + 3
+
+-- Of any store, told or not: the plan can be put, it has no more room than its accepted writes can need, and each write has its reply.
+pub record HasAnswers (sectors : ℕ) (ws : List WriteItem) (made : Reserved) (replies : List Reply) : Type 0 where
+  pub plan : CanBePut sectors made.puts
+  pub room : made.room ≤ room_for (kept_of ws replies)
+  pub count_is : length replies ≡ length ws
   pub forms : AllByRecursion IsWriteReply replies
 
 -- what the puts of a batch ask for: places within the store and three bytes each, a place for each touched sector, and one for the block of addresses where it changes

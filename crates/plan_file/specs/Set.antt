@@ -1,5 +1,5 @@
 -- The plan of a SETATTR.
-use Rattle.std.specs.Prelude.{◌≡◌, ◌<◌, ◌≤◌, ℕ, ◌/◌, ◌%◌, min, Bool, true, List, [], ◌∷◌, ◌++◌, length, set, not, ◌==◌, ◌&&◌, nat_lt, if◌then◌else◌}
+use Rattle.std.specs.Prelude.{◌≡◌, ◌<◌, ◌≤◌, ℕ, ◌/◌, ◌%◌, min, Bool, true, List, [], ◌∷◌, ◌++◌, length, set, not, ◌==◌, ◌&&◌, nat_lt, is_some, if◌then◌else◌}
 use Rattle.files_model.specs.declared.attributes.Attr.{Attr}
 use Rattle.files_model.specs.declared.attributes.FileId.{FileId}
 use Rattle.files_model.specs.declared.attributes.Sattr.{Sattr}
@@ -8,7 +8,7 @@ use Rattle.files_model.specs.declared.credential.Cred.{Cred}
 use Rattle.files_model.specs.declared.reply.Reply.{Reply}
 use Rattle.files_model.specs.Files.{sectors_of}
 use Rattle.files_model.specs.Step.{step}
-use Rattle.stable.specs.Puts.{put_all}
+use Rattle.stable.specs.Puts.{Reserved, put_all, AllStand, AllPastSuperBlock}
 use Rattle.stable.specs.Store.{Image}
 use Rattle.v7_layout.specs.declared.inode.Inode.{Inode}
 use Rattle.v7_map.specs.Image.{inode_sector}
@@ -64,3 +64,14 @@ pub record IsPlannedSet (image : Image) (file : FileId) (wanted : Sattr) (cred :
   pub plan : IsPlanOf image ((Setattr file wanted, cred) ∷ []) now puts
   pub answered : reply ≡ (step (view image) (Setattr file wanted) cred now).0
   pub sets : (blocks inodes : List Bool) → AreSetsOf image blocks inodes → AreSetsOf (put_all puts image) (given freed blocks) inodes
+
+-- how many puts a SETATTR takes at most, whatever its file is: the inode, and one more where a size is set
+abbrev pub set_puts : Sattr → ℕ
+set_puts wanted = if is_some wanted.size then 2 else 1
+
+-- Of any store, told or not: a plan of at most so many puts, each past the super-block and within a store of so many sectors, with room for no more than two.
+pub record CanBeSet (sectors most : ℕ) (made : Reserved) : Type 0 where
+  pub few : length made.puts ≤ most
+  pub room : made.room ≤ 2
+  pub stand : AllStand sectors made.puts
+  pub past : AllPastSuperBlock made.puts

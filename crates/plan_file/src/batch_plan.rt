@@ -1,6 +1,6 @@
 // The plan of a batch of writes to one file.
 
-ghost use Rattle.std.specs.Prelude.{◌≡◌, ◌<◌, ◌≤◌, [], length, replicate, true, not, IfOk, OnOk, OnErr, IsErrOf};
+ghost use Rattle.std.specs.Prelude.{◌≡◌, ◌<◌, ◌≤◌, [], length, replicate, not, IfOk, OnOk, OnErr, IsErrOf};
 ghost use Rattle.std.specs.List.{list_any};
 ghost use Rattle.files_model.specs.Space.{size_limit};
 ghost use Rattle.files_model.specs.Step.{is_refused};
@@ -15,8 +15,12 @@ ghost use Rattle.v7_map.specs.Weak.{IsStrong};
 ghost use Rattle.v7_sets.specs.Sets.{AreSetsOf};
 ghost use Rattle.plan_file.specs.Accepted.{kept_of};
 ghost use Rattle.plan_file.specs.Free.{TakesBlocks};
-ghost use Rattle.plan_file.specs.Planned.{AreBatchPuts, IsReady, IsPlanned, CanBePut, HasAnswers};
+ghost use Rattle.plan_file.specs.Contents.{Fits};
+ghost use Rattle.plan_file.specs.Planned.{AreBatchPuts, IsReady, IsPlanned, HasAnswers, room_for};
+ghost use Rattle.plan_file.specs.declared.fault.PlanFault.TheVariants as fault;
 
+use crate::PlanFault;
+use crate::accepted::count_touched;
 use crate::decide::decide;
 use crate::filling::{add_contents, add_cut, add_map};
 use crate::inode::sector_of_inode;
@@ -35,15 +39,6 @@ use v7_sets::Sets;
 pub struct Planned {
     pub plan: Plan,
     pub replies: ArrayVec<Reply, 16>,
-}
-
-/// Why a batch could not be planned.
-#[derive(Clone, Copy, Debug, PartialEq, Eq)]
-pub enum PlanFault {
-    /// The store failed.
-    Failed,
-    /// There was no memory.
-    NoMemory,
 }
 
 // As many answers of a stale handle as there are writes.
@@ -83,10 +78,10 @@ fn add_puts<S: Stable>(
     replies: &[Reply],
 ) -> Result<(), Failed>
     requires ready { IsReady (S.sector_count store.old) ino places.now target.now attr.now (kept_of batch.now replies.now) }
-    requires empty { plan.old ≡ [] }
+    requires empty { plan.old ≡ record { puts = []; room = room_for (kept_of batch.now replies.now) } }
     requires same { length replies.now ≡ length batch.now }
-    ensures added { S.tells → OnOk result (AreBatchPuts (S.image store.old) ino found.now places.now target.now attr.now (kept_of batch.now replies.now) plan.new) }
-    ensures fits { OnOk result (CanBePut (S.sector_count store.old) plan.new) }
+    ensures added { S.tells → OnOk result (AreBatchPuts (S.image store.old) ino found.now places.now target.now attr.now (kept_of batch.now replies.now) plan.new.puts) }
+    ensures fits { OnOk result (Fits (S.sector_count store.old) (room_for (kept_of batch.now replies.now)) plan.old plan.new) }
     ensures cause { HasCause (S.faults store.old) (S.faults store.new) result }
     ensures looked { Looked S.Stable store.old store.new }
 {
@@ -101,22 +96,21 @@ fn add_puts<S: Stable>(
 
 // Plans a batch of writes to a file that stands.
 fn plan_found<S: Stable>(
+    alloc: Global,
     store: &mut S,
-    mut plan: Plan,
     sets: &mut Sets,
     file: FileId,
     found: &Found,
     batch: &[WriteItem],
     now: u32,
-) -> Result<Planned, Failed>
+) -> Result<Planned, PlanFault>
     requires few { length batch.now ≤ 16 }
-    requires empty { plan ≡ [] }
     requires found { (found.now.inode.size ≤ size_limit) × (inode_sector file.ino < S.sector_count store.old) }
-    ensures planned { S.tells → IsStrong (frame (S.image store.old)) → AreSetsOf (S.image store.old) sets.old.blocks sets.old.inodes → IsFile (S.image store.old) file found.now → IfOk result (λ r. IsPlanned (S.image store.old) file batch.now now sets.new r.plan r.replies.items) }
-    ensures fits { IfOk result (λ r. HasAnswers (S.sector_count store.old) (length batch.now) r.plan r.replies.items) }
+    ensures planned { S.tells → IsStrong (frame (S.image store.old)) → AreSetsOf (S.image store.old) sets.old.blocks sets.old.inodes → IsFile (S.image store.old) file found.now → IfOk result (λ r. IsPlanned (S.image store.old) file batch.now now sets.new r.plan.puts r.replies.items) }
+    ensures fits { IfOk result (λ r. HasAnswers (S.sector_count store.old) batch.now r.plan r.replies.items) }
     ensures takes { TakesBlocks sets.old sets.new }
     ensures kept { OnErr result (sets.new ≡ sets.old) }
-    ensures cause { HasCause (S.faults store.old) (S.faults store.new) result }
+    ensures cause { IsErrOf result fault.Failed → Rose (S.faults store.old) (S.faults store.new) }
     ensures looked { Looked S.Stable store.old store.new }
 {
     let places = file_places(store, &found.inode)?;
@@ -124,8 +118,11 @@ fn plan_found<S: Stable>(
     let mut draft = first_draft(file.ino, &found.inode, &places, free);
     let replies = decide(found.read_only, &mut draft, batch, now);
     if !any_accepted(replies.as_slice()) {
+        let plan = Plan::empty(alloc);
         return Ok(Planned { plan, replies });
     }
+    let room = count_touched(batch, replies.as_slice()) + 3;
+    let mut plan = Plan::new(alloc, room)?;
     let target = lay_out(&sets.blocks, &places, &draft.held, draft.mapped);
     add_puts(
         store,
@@ -150,8 +147,8 @@ fn plan_found<S: Stable>(
 
 /// Plans a batch of at most 16 writes to one file at one time, each answered as if those before it were done (RFC 1094 2.2.9): the old last sector
 /// where the size cuts it, the file grows and it isn't written, then each touched sector once with its final content, then the block of addresses if
-/// it changes, then the inode. Nothing is put. All memory that the plan needs is taken here. The new blocks leave the set of free ones; after a fault
-/// the sets are as they were.
+/// it changes, then the inode. Nothing is put. All memory that the plan needs is taken here, once its accepted writes are known: room for so many
+/// puts as these can need. The new blocks leave the set of free ones; after a fault the sets are as they were.
 pub fn plan_writes<S: Stable>(
     alloc: Global,
     store: &mut S,
@@ -161,28 +158,19 @@ pub fn plan_writes<S: Stable>(
     now: u32,
 ) -> Result<Planned, PlanFault>
     requires few { length batch.now ≤ 16 }
-    ensures planned { S.tells → IsStrong (frame (S.image store.old)) → AreSetsOf (S.image store.old) sets.old.blocks sets.old.inodes → IfOk result (λ r. IsPlanned (S.image store.old) file batch.now now sets.new r.plan r.replies.items) }
-    ensures fits { IfOk result (λ r. HasAnswers (S.sector_count store.old) (length batch.now) r.plan r.replies.items) }
+    ensures planned { S.tells → IsStrong (frame (S.image store.old)) → AreSetsOf (S.image store.old) sets.old.blocks sets.old.inodes → IfOk result (λ r. IsPlanned (S.image store.old) file batch.now now sets.new r.plan.puts r.replies.items) }
+    ensures fits { IfOk result (λ r. HasAnswers (S.sector_count store.old) batch.now r.plan r.replies.items) }
     ensures takes { TakesBlocks sets.old sets.new }
     ensures kept { OnErr result (sets.new ≡ sets.old) }
-    ensures cause { IsErrOf result PlanFault.Failed → Rose (S.faults store.old) (S.faults store.new) }
+    ensures cause { IsErrOf result fault.Failed → Rose (S.faults store.old) (S.faults store.new) }
     ensures looked { Looked S.Stable store.old store.new }
 {
-    let Ok(plan) = Plan::new(alloc) else {
-        return Err(PlanFault::NoMemory);
-    };
-    let found = match find(store, file) {
-        Ok(Some(found)) => found,
-        Ok(None) => {
-            return Ok(Planned {
-                plan,
-                replies: stale_replies(batch),
-            });
-        }
-        Err(_) => return Err(PlanFault::Failed),
-    };
-    match plan_found(store, plan, sets, file, &found, batch, now) {
-        Ok(planned) => Ok(planned),
-        Err(_) => Err(PlanFault::Failed),
+    let found = find(store, file)?;
+    match found {
+        Some(found) => plan_found(alloc, store, sets, file, &found, batch, now),
+        None => Ok(Planned {
+            plan: Plan::empty(alloc),
+            replies: stale_replies(batch),
+        }),
     }
 }

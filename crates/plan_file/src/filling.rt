@@ -7,7 +7,7 @@ ghost use Rattle.stable.specs.Looked.{Looked};
 ghost use Rattle.files_model.specs.Batch.{touches};
 ghost use Rattle.v7_layout.specs.Numbers.{field};
 ghost use Rattle.plan_file.specs.Accepted.{kept_of, spliced_by, covers};
-ghost use Rattle.plan_file.specs.Contents.{old_content, content_puts, cuts, cut_puts, MapPuts, Fits};
+ghost use Rattle.plan_file.specs.Contents.{old_content, content_puts, touched_below, cuts, cut_puts, MapPuts, Fits};
 ghost use Rattle.plan_file.specs.Places.{AreWithin};
 
 use crate::accepted::{is_covered, is_touched, write_over};
@@ -78,10 +78,10 @@ pub fn add_contents<S: Stable>(
 ) -> Result<(), Failed>
     requires places { AreWithin (S.sector_count store.old) places.now }
     requires to { (k : ℕ) → k < 138 → list_any (touches k) (kept_of batch.now replies.now) ≡ true → (2 ≤ get_or target.now.body k 0) × (get_or target.now.body k 0 < S.sector_count store.old) }
-    requires room { length plan.old + 138 ≤ 420 }
+    requires room { length plan.old.puts + touched_below (kept_of batch.now replies.now) 138 ≤ plan.old.room }
     requires same { length replies.now ≡ length batch.now }
-    ensures added { S.tells → OnOk result (plan.new ≡ plan.old ++ content_puts (S.image store.old) size places.now.body target.now.body (kept_of batch.now replies.now) (range_with_len 0 138)) }
-    ensures fits { OnOk result (Fits (S.sector_count store.old) 138 plan.old plan.new) }
+    ensures added { S.tells → OnOk result (plan.new.puts ≡ plan.old.puts ++ content_puts (S.image store.old) size places.now.body target.now.body (kept_of batch.now replies.now) (range_with_len 0 138)) }
+    ensures fits { OnOk result (Fits (S.sector_count store.old) (touched_below (kept_of batch.now replies.now) 138) plan.old plan.new) }
     ensures cause { HasCause (S.faults store.old) (S.faults store.new) result }
     ensures looked { Looked S.Stable store.old store.new }
 {
@@ -130,9 +130,9 @@ pub fn add_cut<S: Stable>(
 ) -> Result<(), Failed>
     requires places { AreWithin (S.sector_count store.old) places.now }
     requires within { new_size ≤ 70656 }
-    requires room { length plan.old < 420 }
+    requires room { length plan.old.puts < plan.old.room }
     requires same { length replies.now ≡ length batch.now }
-    ensures added { S.tells → OnOk result (plan.new ≡ plan.old ++ cut_puts (S.image store.old) size new_size places.now.body (kept_of batch.now replies.now)) }
+    ensures added { S.tells → OnOk result (plan.new.puts ≡ plan.old.puts ++ cut_puts (S.image store.old) size new_size places.now.body (kept_of batch.now replies.now)) }
     ensures fits { OnOk result (Fits (S.sector_count store.old) 1 plan.old plan.new) }
     ensures cause { HasCause (S.faults store.old) (S.faults store.new) result }
     ensures looked { Looked S.Stable store.old store.new }
@@ -172,8 +172,8 @@ fn first_changed(old: &[u32; 138], new: &[u32; 138]) -> Option<usize>
 
 /// Adds the block of addresses where an address in it changes.
 pub fn add_map(plan: &mut Plan, old: &Places, new: &Places)
-    requires { length plan.old < 420 }
-    ensures added { (maps : List (ℕ × List ℕ)) × (plan.new ≡ plan.old ++ maps) × MapPuts old.now new.now maps }
+    requires { length plan.old.puts < plan.old.room }
+    ensures added { (maps : List (ℕ × List ℕ)) × (plan.new.puts ≡ plan.old.puts ++ maps) × MapPuts old.now new.now maps }
     ensures fits { (sectors : ℕ) → ((k : ℕ) → 10 ≤ k → k < 138 → get_or new.now.body k 0 ≢ get_or old.now.body k 0 → (2 ≤ new.now.single) × (new.now.single < sectors)) → Fits sectors 1 plan.old plan.new }
 {
     match first_changed(&old.body, &new.body) {

@@ -6,6 +6,7 @@ mod attributes;
 mod batch_plan;
 mod decide;
 mod draft;
+mod fault;
 mod filling;
 mod inode;
 mod laws;
@@ -16,7 +17,8 @@ mod shorter;
 mod started;
 
 pub use attributes::id_of;
-pub use batch_plan::{PlanFault, Planned, plan_writes};
+pub use batch_plan::{Planned, plan_writes};
+pub use fault::PlanFault;
 pub use laws::batch_is_planned;
 pub use places::{Places, file_places};
 pub use set_plan::{PlannedSet, plan_setattr};

@@ -52,8 +52,8 @@ pub fn cut_places(places: &Places, count: u32) -> Places
 
 /// Adds the block of addresses where it is kept and an address in it changes.
 pub fn add_left(plan: &mut Plan, old: &Places, new: &Places)
-    requires { length plan.old < 420 }
-    ensures added { (maps : List (ℕ × List ℕ)) × (plan.new ≡ plan.old ++ maps) × LeftPuts old.now new.now maps }
+    requires { length plan.old.puts < plan.old.room }
+    ensures added { (maps : List (ℕ × List ℕ)) × (plan.new.puts ≡ plan.old.puts ++ maps) × LeftPuts old.now new.now maps }
     ensures fits { (sectors : ℕ) → (new.now.single ≢ 0 → (2 ≤ new.now.single) × (new.now.single < sectors)) → Fits sectors 1 plan.old plan.new }
 {
     if new.single == 0 {

@@ -1,3 +1,4 @@
 mod Bytes
 mod Past
 mod RemovingBuilt
+mod CreatingBuilt

@@ -1,2 +1,3 @@
 pub mod Growth
 pub mod Removals
+pub mod Creating

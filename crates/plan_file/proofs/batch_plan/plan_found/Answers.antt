@@ -1,22 +1,25 @@
-use Rattle.std.proofs.Common.{arith, ◌≡◌, ◌≤◌, ◌<◌, min, not, length, true, false, refl, sym, ap, subst, ◌∙◌, ℕ}
+use Rattle.std.proofs.Common.{arith, ◌+◌, ◌≡◌, ◌≤◌, ◌<◌, min, not, length, true, false, refl, sym, ap, subst, ◌∙◌, ℕ}
 use Rattle.std.specs.List.{list_any}
 use Rattle.files_model.specs.declared.attributes.Attr.{Attr}
 use Rattle.files_model.specs.Batch.{touches}
 use Rattle.files_model.specs.Space.{size_limit}
 use Rattle.files_model.specs.Step.{is_refused}
+use Rattle.stable.specs.Puts.{Reserved}
 use Rattle.stable.specs.Store.{Image}
 use Rattle.v7_map.specs.Image.{IsImage}
 use Rattle.v7_map.proofs.Whole.{as_long, whole_image}
 use Rattle.plan_file.specs.Accepted.{kept_of}
 use Rattle.plan_file.specs.declared.draft.Draft.{Draft}
 use Rattle.plan_file.specs.Draft.{holds}
-use Rattle.plan_file.specs.Planned.{CanBePut, IsPlanned, IsReady}
+use Rattle.plan_file.specs.Contents.{Fits, touched_below}
+use Rattle.plan_file.specs.Planned.{CanBePut, IsPlanned, IsReady, room_for}
 use Rattle.plan_file.specs.Started.{IsFirst}
 use Rattle.plan_file.specs.Free.{AreSpare}
 use Rattle.plan_file.proofs.Freed.{spare-of}
 use Rattle.plan_file.proofs.Later.{IsLater, later, enough, length-draft_replies, touched-held, mapped-high, first-high}
 use Rattle.plan_file.proofs.Placing.{taken_by, laid-held, laid-mapped, laid-within, changed-held}
-use Rattle.plan_file.proofs.Adding.{draft-answers, empty-put}
+use Rattle.plan_file.proofs.Adding.{draft-answers, empty-put, empty-room, fits-put}
+use Rattle.plan_file.proofs.Touching.{touched-few}
 use Rattle.plan_file.proofs.Planning.{none-done, batch-done}
 use Rattle.plan_file.proofs.batch_plan.plan_found.Goals as goal
 
@@ -29,7 +32,7 @@ returns-then-not-any_accepted-clause-planned g c = λ tells strong are is.
     let sectors : ℕ = min (S.sector_count c.args.store.now) 1048576 in
     let first = subst (λ n. IsFirst c.args.file.ino c.args.found.now.inode c.in_ok-places.places n c.first_draft-draft.result) (c.spare_blocks-free.ensures.all (subst (λ (n : ℕ). AreSpare n c.args.sets.now.blocks) (sym (c.sectors.ensures ∙ c.in_ok-places.ensures.looked.sectors)) (spare-of image (S.sector_count c.args.store.now) c.args.sets.now.blocks c.args.sets.now.inodes strong long are))) c.first_draft-draft.ensures in
     let none : list_any (λ r. not (is_refused r)) c.decide-replies.result.items ≡ false = ap (list_any (λ r. not (is_refused r))) (sym c.as_slice.ensures.value) ∙ sym c.any_accepted.ensures ∙ c.if-not-any_accepted.true in
-    subst (λ ps. IsPlanned image c.args.file c.args.batch.now c.args.now c.args.sets.now ps c.decide-replies.result.items) (sym c.requires.empty)
+    subst (λ ps. IsPlanned image c.args.file c.args.batch.now c.args.now c.args.sets.now ps c.decide-replies.result.items) (sym (ap (λ (p : Reserved). p.puts) c.empty-plan.ensures))
     (none-done image strong whole c.args.file c.args.found.now is c.in_ok-places.places sectors (ap (λ m. min m 1048576) (sym long)) (c.in_ok-places.ensures.places tells)
     c.args.sets.now.blocks c.args.sets.now.inodes are c.first_draft-draft.result first c.args.batch.now c.args.now c.decide-replies.result.items c.decide-replies.ensures.replies none)
 
@@ -53,13 +56,13 @@ add_puts-requires-clause-ready g c =
     let laid = c.lay_out-target.ensures in
     let late : IsLater 138 c.first_draft-draft.result last = subst (IsLater 138 c.first_draft-draft.result) (sym c.decide-replies.ensures.draft)
     (later 138 refl c.args.found.now.read_only c.first_draft-draft.result ws c.args.now first.held.long) in
-    let replies = c.as_slice-2.ensures.value ∙ c.decide-replies.ensures.replies in
+    let replies = c.as_slice-3.ensures.value ∙ c.decide-replies.ensures.replies in
     let e = enough 138 refl c.args.file.ino c.args.found.now.inode places c.spare_blocks-free.result c.first_draft-draft.result last first late in
     let spare : 0 < taken_by places last.held last.mapped → AreSpare (S.sector_count c.args.store.now) c.args.sets.now.blocks = λ some.
     subst (λ (n : ℕ). AreSpare n c.args.sets.now.blocks) (c.sectors.ensures ∙ c.in_ok-places.ensures.looked.sectors) (c.spare_blocks-free.ensures.some (omega arith)) in
     let high = mapped-high 138 refl c.args.found.now.read_only c.first_draft-draft.result ws c.args.now first.held.long
     (first-high c.args.file.ino c.args.found.now.inode places c.spare_blocks-free.result c.first_draft-draft.result first c.in_ok-places.ensures.through) in
-    subst (λ (n : ℕ). IsReady n c.args.file.ino places target last.attr (kept_of ws c.as_slice-2.result.now)) (sym c.in_ok-places.ensures.looked.sectors)
+    subst (λ (n : ℕ). IsReady n c.args.file.ino places target last.attr (kept_of ws c.as_slice-3.result.now)) (sym c.in_ok-places.ensures.looked.sectors)
     (record {
       old = c.in_ok-places.ensures.within;
       new = laid-within (S.sector_count c.args.store.now) c.args.sets.now.blocks places last.held last.mapped target laid late.long spare c.in_ok-places.ensures.within;
@@ -76,7 +79,7 @@ add_puts-requires-clause-ready g c =
     size_of_first e = ap (λ (x : Attr). x.size) e
 
 pub add_puts-requires-clause-same : goal.add_puts-requires-clause-same
-add_puts-requires-clause-same g c = ap length (c.as_slice-2.ensures.value ∙ c.decide-replies.ensures.replies) ∙ length-draft_replies c.args.found.now.read_only c.first_draft-draft.result c.args.batch.now c.args.now
+add_puts-requires-clause-same g c = ap length (c.as_slice-3.ensures.value ∙ c.decide-replies.ensures.replies) ∙ length-draft_replies c.args.found.now.read_only c.first_draft-draft.result c.args.batch.now c.args.now
 
 pub returns-clause-planned : goal.returns-clause-planned
 returns-clause-planned g c = λ tells strong are is.
@@ -88,21 +91,32 @@ returns-clause-planned g c = λ tells strong are is.
     let some : list_any (λ r. not (is_refused r)) c.decide-replies.result.items ≡ true = ap (list_any (λ r. not (is_refused r))) (sym c.as_slice.ensures.value) ∙ sym c.any_accepted.ensures ∙ c.if-not-any_accepted.false in
     batch-done image strong whole c.args.file c.args.found.now is c.in_ok-places.places (min (S.sector_count c.args.store.now) 1048576) (ap (λ m. min m 1048576) (sym long)) (c.in_ok-places.ensures.places tells)
     c.args.sets.now.blocks c.args.sets.now.inodes are c.first_draft-draft.result first c.args.batch.now c.args.now c.decide-replies.result.items c.decide-replies.ensures.replies
-    c.decide-replies.new.draft c.decide-replies.ensures.draft c.as_slice-2.result.now c.as_slice-2.ensures.value some
-    c.lay_out-target.result c.lay_out-target.ensures (S.image c.file_places.new.store) c.in_ok-places.ensures.looked.image c.add_puts.new.plan (c.in_ok-add_puts.ensures.added tells)
+    c.decide-replies.new.draft c.decide-replies.ensures.draft c.as_slice-3.result.now c.as_slice-3.ensures.value some
+    c.lay_out-target.result c.lay_out-target.ensures (S.image c.file_places.new.store) c.in_ok-places.ensures.looked.image c.add_puts.new.plan.puts (c.in_ok-add_puts.ensures.added tells)
     c.take_new.new.blocks c.take_new.ensures
+
+pub count_touched-room-requires : goal.count_touched-room-requires
+count_touched-room-requires g c = ap length (c.as_slice-2.ensures.value ∙ c.decide-replies.ensures.replies) ∙ length-draft_replies c.args.found.now.read_only c.first_draft-draft.result c.args.batch.now c.args.now
 
 pub returns-then-not-any_accepted-clause-fits : goal.returns-then-not-any_accepted-clause-fits
 returns-then-not-any_accepted-clause-fits g c =
     let sectors = g.S.Stable.sector_count c.args.store.now in
-    draft-answers sectors c.args.found.now.read_only c.first_draft-draft.result c.args.batch.now c.args.now c.args.plan c.decide-replies.result.items c.decide-replies.ensures.replies
-    (empty-put sectors c.args.plan c.requires.empty)
+    draft-answers sectors c.args.found.now.read_only c.first_draft-draft.result c.args.batch.now c.args.now c.empty-plan.result c.decide-replies.result.items c.decide-replies.ensures.replies
+    (empty-put sectors c.empty-plan.result c.empty-plan.ensures) (empty-room (kept_of c.args.batch.now c.decide-replies.result.items) c.empty-plan.result c.empty-plan.ensures)
 
 pub returns-clause-fits : goal.returns-clause-fits
 returns-clause-fits g c =
-    let sectors = g.S.Stable.sector_count c.args.store.now in
+    let sectors : ℕ = g.S.Stable.sector_count c.args.store.now in
+    let still : ℕ = g.S.Stable.sector_count c.file_places.new.store in
+    let ws = kept_of c.args.batch.now c.decide-replies.result.items in
+    let count : c.count_touched-room.result ≡ touched_below ws 138 = c.count_touched-room.ensures.count ∙ ap (λ l. touched_below (kept_of c.args.batch.now l) 138) c.as_slice-2.ensures.value in
+    let fits : Fits still (room_for ws) c.in_ok-plan.plan c.add_puts.new.plan = subst (λ l. Fits still (room_for (kept_of c.args.batch.now l)) c.in_ok-plan.plan c.add_puts.new.plan) c.as_slice-3.ensures.value c.in_ok-add_puts.ensures.fits in
+    let few = touched-few ws 138 in
+    let room : c.add_puts.new.plan.room ≡ c.count_touched-room.result + 3 = fits.room ∙ ap (λ (p : Reserved). p.room) c.in_ok-plan.ensures in
     draft-answers sectors c.args.found.now.read_only c.first_draft-draft.result c.args.batch.now c.args.now c.add_puts.new.plan c.decide-replies.result.items c.decide-replies.ensures.replies
-    (subst (λ (n : ℕ). CanBePut n c.add_puts.new.plan) c.in_ok-places.ensures.looked.sectors c.in_ok-add_puts.ensures.fits)
+    (subst (λ (n : ℕ). CanBePut n c.add_puts.new.plan.puts) c.in_ok-places.ensures.looked.sectors
+    (fits-put still (room_for ws) (c.count_touched-room.result + 3) c.in_ok-plan.plan c.add_puts.new.plan (omega (arith, few)) c.in_ok-plan.ensures fits))
+    (omega (arith, count, room))
 
 pub lay_out-target-requires-clause-small : goal.lay_out-target-requires-clause-small
 lay_out-target-requires-clause-small g c = λ some a h.

@@ -1,5 +1,6 @@
 use Rattle.std.proofs.Common.{◌≡◌, ◌/◌, ◌∷◌, ◌++◌, [], get_or, sym, ap, ◌∙◌, true, false, ℕ}
 use Rattle.std.proofs.lemmas.List.{append-nil}
+use Rattle.stable.specs.Puts.{Reserved}
 use Rattle.stable.specs.Store.{Image}
 use Rattle.plan_file.specs.Accepted.{kept_of}
 use Rattle.plan_file.specs.Contents.{cuts}
@@ -11,7 +12,7 @@ pub returns-then-not-cuts_sector-clause-added : goal.returns-then-not-cuts_secto
 returns-then-not-cuts_sector-clause-added g c = λ tells.
     let body = c.args.places.now.body in
     let none : cuts c.args.size c.args.new_size body (kept_of c.args.batch.now c.args.replies.now) ≡ false = sym c.cuts_sector.ensures ∙ c.if-not-cuts_sector.true in
-    sym (append-nil c.args.plan.now) ∙ ap (λ l. c.args.plan.now ++ l) (sym (cut-none (g.S.Stable.image c.args.store.now) c.args.size c.args.new_size body (kept_of c.args.batch.now c.args.replies.now) none))
+    sym (append-nil c.args.plan.now.puts) ∙ ap (λ l. c.args.plan.now.puts ++ l) (sym (cut-none (g.S.Stable.image c.args.store.now) c.args.size c.args.new_size body (kept_of c.args.batch.now c.args.replies.now) none))
 
 pub returns-then-not-cuts_sector-clause-fits : goal.returns-then-not-cuts_sector-clause-fits
 returns-then-not-cuts_sector-clause-fits g c = fits-none (g.S.Stable.sector_count c.args.store.now) 1 c.args.plan.now
@@ -22,8 +23,8 @@ returns-clause-added g c = λ tells.
     let body = c.args.places.now.body in
     let some : cuts c.args.size c.args.new_size body (kept_of c.args.batch.now c.args.replies.now) ≡ true = sym c.cuts_sector.ensures ∙ c.if-not-cuts_sector.false in
     let a : ℕ = get_or body (c.args.size / 512) 0 in
-    c.add.ensures ∙ ap (λ b. c.args.plan.now ++ (a, b) ∷ []) (c.in_ok-bytes.ensures.content tells)
-    ∙ ap (λ l. c.args.plan.now ++ l) (sym (cut-some image c.args.size c.args.new_size body (kept_of c.args.batch.now c.args.replies.now) some))
+    ap (λ (p : Reserved). p.puts) c.add.ensures ∙ ap (λ b. c.args.plan.now.puts ++ (a, b) ∷ []) (c.in_ok-bytes.ensures.content tells)
+    ∙ ap (λ l. c.args.plan.now.puts ++ l) (sym (cut-some image c.args.size c.args.new_size body (kept_of c.args.batch.now c.args.replies.now) some))
 
 pub returns-clause-fits : goal.returns-clause-fits
 returns-clause-fits g c =

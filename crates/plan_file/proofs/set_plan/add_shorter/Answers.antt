@@ -1,10 +1,11 @@
 use Rattle.std.proofs.Common.{arith, ◌≡◌, ℕ, min, [], ◌∷◌, ◌++◌, length, sym, ap, subst, ◌∙◌}
+use Rattle.stable.specs.Puts.{Reserved}
 use Rattle.stable.specs.Store.{Image}
 use Rattle.v7_map.proofs.Whole.{as_long}
 use Rattle.plan_file.specs.Places.{ArePlaces}
 use Rattle.plan_file.specs.Found.{ReplacesInode}
 use Rattle.plan_file.specs.Shorter.{AreCut}
-use Rattle.plan_file.proofs.Adding.{fits-none, fits-one, fits-then, fits-put}
+use Rattle.plan_file.proofs.Adding.{fits-none, fits-one, fits-then}
 use Rattle.plan_file.proofs.set_plan.add_shorter.Goals as goal
 
 pub returns-clause-added : goal.returns-clause-added
@@ -24,7 +25,7 @@ returns-clause-added g c = λ tells.
       replaces = subst (λ n. ReplacesInode c.args.found.now.sector c.args.ino n c.sector_with-sector.result) c.stored_inode-inode.ensures c.sector_with-sector.ensures;
       maps = left.0;
       left = left.2;
-      is = left.1 ∙ ap (λ l. l ++ left.0) (c.add.ensures ∙ ap (λ l. l ++ (c.inode_sector_of.result, c.sector_with-sector.result) ∷ []) c.requires.empty ∙ ap (λ s. (s, c.sector_with-sector.result) ∷ []) c.inode_sector_of.ensures);
+      is = left.1 ∙ ap (λ l. l ++ left.0) (ap (λ (p : Reserved). p.puts) c.add.ensures ∙ ap (λ (p : Reserved). p.puts ++ (c.inode_sector_of.result, c.sector_with-sector.result) ∷ []) c.requires.empty ∙ ap (λ s. (s, c.sector_with-sector.result) ∷ []) c.inode_sector_of.ensures);
       dropped = c.dropped.ensures;
     }
 
@@ -37,4 +38,4 @@ returns-clause-fits g c =
     let left = c.add_left.ensures.fits sectors (λ nz.
     let same : c.cut_places-kept.result.single ≡ c.in_ok-places.places.single = c.cut_places-kept.ensures.same nz in
     let w = c.in_ok-places.ensures.within.single (λ z. nz (same ∙ z)) in let low = w.0 in let high = w.1 in (omega arith, omega arith)) in
-    fits-put sectors 2 c.args.plan.now c.add_left.new.plan (omega arith) c.requires.empty (fits-then sectors 1 1 c.args.plan.now c.add.new.self c.add_left.new.plan one left)
+    fits-then sectors 1 1 c.args.plan.now c.add.new.self c.add_left.new.plan one left

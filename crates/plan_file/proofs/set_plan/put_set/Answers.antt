@@ -7,4 +7,4 @@ returns-then-attr-found-clause-done g c = λ tells. shorter c.in_ok-freed.freed.
 
 pub returns-clause-done : goal.returns-clause-done
 returns-clause-done g c = λ tells.
-    subst (AreSetPuts (g.S.Stable.image c.args.store.now) c.args.ino c.args.found.now c.args.attr.now c.add_kept.new.plan) (sym c.new-freed.ensures) (kept c.if-attr-found.false (c.in_ok-add_kept.ensures.added tells))
+    subst (AreSetPuts (g.S.Stable.image c.args.store.now) c.args.ino c.args.found.now c.args.attr.now c.add_kept.new.plan.puts) (sym c.new-freed.ensures) (kept c.if-attr-found.false (c.in_ok-add_kept.ensures.added tells))

@@ -3,6 +3,7 @@ use Rattle.files_model.specs.declared.attributes.Attr.{Attr}
 use Rattle.files_model.specs.Attributes.{set_attr}
 use Rattle.files_model.specs.declared.reply.Reply.TheVariants as reply
 use Rattle.files_model.specs.Step.{setattr_refusal}
+use Rattle.stable.specs.Puts.{Reserved}
 use Rattle.stable.specs.Store.{Image}
 use Rattle.v7_map.specs.Stored.{stored_attr}
 use Rattle.v7_map.proofs.Whole.{whole_image}
@@ -17,7 +18,7 @@ returns-in-Some-clause-planned g c = λ tells strong is.
     let whole = whole_image S.sector_count g.met.S.Stable.clocked g.met.S.Stable.shape c.args.store.now tells in
     let refusal : setattr_refusal c.args.found.now.read_only (stored_attr c.args.file.ino c.args.found.now.inode) c.args.wanted.now c.args.cred.now ≡ Some c.in-Some.status =
     sym (ap (λ (a : Attr). setattr_refusal c.args.found.now.read_only a c.args.wanted.now c.args.cred.now) c.attributes_of-attr.ensures) ∙ sym c.in-Some.ensures in
-    same-planned image c.args.file c.args.wanted.now c.args.cred.now c.args.now (c.refused.ensures.plan ∙ c.requires.empty) c.refused.ensures.reply c.refused.ensures.freed
+    same-planned image c.args.file c.args.wanted.now c.args.cred.now c.args.now (ap (λ (p : Reserved). p.puts) c.refused.ensures.plan) c.refused.ensures.reply c.refused.ensures.freed
     (refused-set image strong whole c.args.file c.args.found.now is c.args.wanted.now c.args.cred.now c.args.now c.in-Some.status refusal)
 
 pub returns-clause-planned : goal.returns-clause-planned
@@ -29,6 +30,6 @@ returns-clause-planned g c = λ tells strong is.
     sym (ap (λ (a : Attr). setattr_refusal c.args.found.now.read_only a c.args.wanted.now c.args.cred.now) c.attributes_of-attr.ensures) ∙ sym c.in-None.ensures in
     let attr : c.set_attributes-after.result ≡ set_attr (stored_attr c.args.file.ino c.args.found.now.inode) c.args.wanted.now c.args.now =
     c.set_attributes-after.ensures ∙ ap (λ (a : Attr). set_attr a c.args.wanted.now c.args.now) c.attributes_of-attr.ensures in
-    let puts = subst (λ (a : Attr). AreSetPuts image c.args.file.ino c.args.found.now a c.in_ok-planned.planned.plan c.in_ok-planned.planned.freed.items) attr (c.in_ok-planned.ensures.done tells) in
+    let puts = subst (λ (a : Attr). AreSetPuts image c.args.file.ino c.args.found.now a c.in_ok-planned.planned.plan.puts c.in_ok-planned.planned.freed.items) attr (c.in_ok-planned.ensures.done tells) in
     same-planned image c.args.file c.args.wanted.now c.args.cred.now c.args.now refl (c.in_ok-planned.ensures.reply ∙ ap reply.Attr attr) refl
-    (set-done image strong whole c.args.file c.args.found.now is c.args.wanted.now c.args.cred.now c.args.now allowed c.in_ok-planned.planned.plan c.in_ok-planned.planned.freed.items puts)
+    (set-done image strong whole c.args.file c.args.found.now is c.args.wanted.now c.args.cred.now c.args.now allowed c.in_ok-planned.planned.plan.puts c.in_ok-planned.planned.freed.items puts)

@@ -5,7 +5,7 @@ use Rattle.plan_file.proofs.Adding.{fits-none}
 use Rattle.plan_file.proofs.shorter.add_left.Goals as goal
 
 pub returns-then-new-eq0-clause-added : goal.returns-then-new-eq0-clause-added
-returns-then-new-eq0-clause-added c = ([], sym (append-nil c.args.plan.now), gone c.if-new-eq0.true)
+returns-then-new-eq0-clause-added c = ([], sym (append-nil c.args.plan.now.puts), gone c.if-new-eq0.true)
 
 pub returns-then-new-eq0-clause-fits : goal.returns-then-new-eq0-clause-fits
 returns-then-new-eq0-clause-fits c = λ sectors within. fits-none sectors 1 c.args.plan.now
