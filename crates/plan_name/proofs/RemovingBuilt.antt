@@ -8,7 +8,7 @@ use Rattle.files_model.specs.Files.{Node}
 use Rattle.stable.specs.Puts.{put_all, with_put}
 use Rattle.stable.specs.Store.{Image}
 use Rattle.v7_map.specs.Image.{sector_at, is_inode, inode_at, inode_sector}
-use Rattle.v7_map.specs.Frame.{Body, frame}
+use Rattle.v7_map.specs.Frame.{frame}
 use Rattle.v7_map.specs.View.{view}
 use Rattle.v7_map.specs.Weak.{IsStrong}
 use Rattle.v7_map.specs.Plan.{PutsInode}
@@ -50,9 +50,6 @@ module _ (image : Image) (dir : FileId) (name : List ℕ) (cred : Cred) (now : �
 
   at_node : is_inode image t.node ≡ true
   at_node = let r = (frame-IsFrame image).numbers t.node (strong.weak.names.used dir.ino t.index t.node name (removal-dir image dir name cred now d t.index t.node n strong x.removal).walked (removal-slot image dir name cred now d t.index t.node n strong x.removal)).0 in is_number image t.node r.0 r.1
-
-  abbrev place : ℕ
-  place = (frame image).address dir.ino (Body (t.index / 32))
 
   -- a plan of these puts, merged
   planned : (before after : List ℕ) (b1 : List ℕ) (bs cs : List (List ℕ)) (b : List ℕ) → TakesName image now dir.ino t.index t.node n before after b1 bs cs b
