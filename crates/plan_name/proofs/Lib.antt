@@ -1,3 +1,5 @@
 mod Bytes
 mod Past
+mod Fitting
 mod CreatingBuilt
+mod CreatingLaid
