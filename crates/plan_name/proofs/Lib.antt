@@ -1,4 +1,6 @@
 mod Bytes
 mod Past
 mod RemovingBuilt
+mod Fitting
 mod CreatingBuilt
+mod CreatingLaid

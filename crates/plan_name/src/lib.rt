@@ -7,7 +7,7 @@ mod names;
 mod new_node;
 mod removing_puts;
 
-pub use creating_puts::{Entry, add_in_place};
+pub use creating_puts::{Entry, Listing, Longer, add_at_end, add_in_place};
 pub use growth::added_blocks;
 pub use names::{create_refusal, entry_refusal, name_refusal, standing_refusal};
 pub use new_node::new_file;
