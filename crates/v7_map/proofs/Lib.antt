@@ -33,3 +33,4 @@ pub mod Finding
 pub mod Listings
 pub mod Unheld
 pub mod SuperPuts
+pub mod Named

@@ -57,3 +57,8 @@ place_numbers n lt = ⊎_elim
 
 pub place_once : (n m : ℕ) → n < 140 → m < 140 → place_at n ≡ place_at m → n ≡ m
 place_once n m ln lm e = let a = place_numbers n ln in let b = place_numbers m lm in let q = ap number_of e in grind arith
+
+-- the place of sector k of a body
+pub place_body : (k : ℕ) → k < 138 → (cond (ltb k 10) k (k + 1) < 140) × (place_at (cond (ltb k 10) k (k + 1)) ≡ Body k)
+unfolding index_of
+place_body k lt = index_found (Body k) lt

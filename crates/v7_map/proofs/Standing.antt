@@ -41,7 +41,8 @@ module _ (image : Image) (strong : IsStrong (frame image)) where
   unfolding view files_of
   node-is i is = get-tabulated _ ((tree (frame image)).inodes + 1) i (node_below i is) ∙ ap (λ b. cond b (Some (node_at image i)) None) (named-used i)
 
-  generation-is : (i : ℕ) → is_inode image i ≡ true → get (view image).generations i ≡ Some (inode_at image i).generation
+  -- and its generation
+  pub generation-is : (i : ℕ) → is_inode image i ≡ true → get (view image).generations i ≡ Some (inode_at image i).generation
   unfolding view files_of
   generation-is i is =
       let low : 1 ≤ i = leb-true 1 i (and_left (leb 1 i) _ is) in

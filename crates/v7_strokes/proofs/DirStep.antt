@@ -14,7 +14,7 @@ use Rattle.v7_map.specs.Weak.{IsWeak, IsTree}
 use Rattle.v7_map.proofs.AnyFrame.{frame-IsFrame}
 use Rattle.v7_map.proofs.Nodes.{view-node}
 use Rattle.v7_strokes.specs.Slots.{NewDirectory, PutsDirectory}
-use Rattle.v7_strokes.proofs.Directories.{tree-numbers}
+use Rattle.v7_map.proofs.Named.{tree-numbers}
 use Rattle.v7_plans.proofs.Local.{IsStrongFor}
 use Rattle.v7_strokes.proofs.Exempt.{weak_slots}
 use Rattle.v7_strokes.proofs.NewDirectory.{new-links, new-walked_other, new-walked_here, new-no_links, made-IsTree}

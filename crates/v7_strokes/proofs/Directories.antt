@@ -16,8 +16,9 @@ use Rattle.v7_map.specs.Tree.{tree, named, is_walked, is_named, links}
 use Rattle.v7_map.specs.View.{view, kind_of}
 use Rattle.v7_map.specs.Weak.{IsWeak, HasDots, slot_at, parent}
 use Rattle.v7_map.proofs.AnyFrame.{frame-IsFrame}
+use Rattle.v7_map.proofs.Named.{named_walked}
 use Rattle.v7_map.proofs.Nodes.{StandsAs, view-node}
-use Rattle.v7_strokes.proofs.Names.{linked-slot, none_slot}
+use Rattle.v7_strokes.proofs.Names.{none_slot}
 use Rattle.v7_map.proofs.Walks.{walked_reached, reached_walked, or_cases}
 use Rattle.v7_map.proofs.Children.{has_slot-at}
 
@@ -34,24 +35,6 @@ directory_kind type = by_test (eqb type 4) (eqb type 10)
 pub node-directory : (image : Image) (i : ℕ) (n : Node) → StandsAs image i n → is_directory ((frame image).head i) ≡ permission.is_directory n.kind
 unfolding frame
 node-directory image i n s = sym (directory_kind ((inode_at image i).mode / 4096)) ∙ ap (λ (m : Node). permission.is_directory m.kind) s.is
-
-above_zero : (n : ℕ) → ltb 0 n ≡ true → 0 < n
-above_zero n h = grind arith
-
-pub tree-numbers : (image : Image) (j : ℕ) → (tree (frame image)).is_dir j ≡ true → (1 ≤ j) × (j < 1 + (tree (frame image)).inodes)
-tree-numbers image j dir = let is = frame-IsFrame image in let r = is.numbers j (is.directories j dir) in let high = r.1 in (r.0, omega arith)
-
-module _ (image : Image) (i : ℕ) where
-  linked_walked : is_directory ((frame image).head i) ≡ true → 0 < links (tree (frame image)) i → is_walked (tree (frame image)) i ≡ true
-  linked_walked dir some =
-      let e = linked-slot (tree (frame image)) i some in
-      reached_walked (tree (frame image)) (tree-numbers image) (named (walked_reached (tree (frame image)) e.0 e.3) (has_slot-at (tree (frame image)) e.0 0 i e.1 e.2 (omega arith) e.4) dir)
-
-  -- a directory that has a name is walked
-  pub named_walked : is_directory ((frame image).head i) ≡ true → is_named (tree (frame image)) i ≡ true → is_walked (tree (frame image)) i ≡ true
-  named_walked dir h = ⊎_elim (λ (w : is_walked (tree (frame image)) i ≡ true). w)
-      (λ (l : ltb 0 (links (tree (frame image)) i) ≡ true). linked_walked dir (above_zero (links (tree (frame image)) i) l))
-      (or_cases (is_walked (tree (frame image)) i) (ltb 0 (links (tree (frame image)) i)) h)
 
 pub slots-length : (image : Image) (d : ℕ) → is_directory ((frame image).head d) ≡ true → length ((tree (frame image)).slots d) ≡ ((frame image).head d).size / 16
 unfolding frame slots_of

@@ -26,7 +26,7 @@ use Rattle.std.proofs.lemmas.Bool.{ne_eqb}
 use Rattle.std.specs.List.{count_by}
 use Rattle.v7_strokes.specs.Slots.{GrowsDirectory}
 use Rattle.v7_strokes.specs.Slots.{NewDirectory}
-use Rattle.v7_strokes.proofs.Directories.{tree-numbers}
+use Rattle.v7_map.proofs.Named.{tree-numbers}
 use Rattle.v7_strokes.proofs.GrowStep.{no_body}
 use Rattle.v7_plans.proofs.Local.{IsStrongFor, IsStrongBut, Elsewhere, each}
 use Rattle.v7_strokes.proofs.NewDirectory.{new-links, new-walked_other, new-walked_here, new-no_links, made-IsTree}

@@ -11,7 +11,8 @@ use Rattle.v7_map.proofs.Used.{walked_is_dir}
 use Rattle.v7_map.proofs.Walks.{or_left, walked_reached, reached_walked}
 use Rattle.v7_strokes.specs.Slots.{NewDirectory}
 use Rattle.v7_strokes.proofs.Aside.{same_bool, slot-named, zero_of}
-use Rattle.v7_strokes.proofs.Names.{slot_of_any, names_is, same_number, none_slot}
+use Rattle.v7_map.proofs.Named.{names_is}
+use Rattle.v7_strokes.proofs.Names.{slot_of_any, same_number, none_slot}
 use Rattle.v7_strokes.proofs.Slots.{any_pointwise, count_but_one, flat_but_one}
 use Rattle.v7_strokes.specs.Left.{one}
 

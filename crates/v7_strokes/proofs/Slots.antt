@@ -7,7 +7,7 @@ use Rattle.files_model.specs.Files.{Slot}
 use Rattle.v7_map.specs.Frame.{Frame}
 use Rattle.v7_map.specs.Tree.{Tree, is_child, has_slot_of, grown, found_in, walked, is_walked, links, is_slot_of, number_in, seen_in}
 use Rattle.v7_map.specs.Weak.{IsTree, slot_at, parent}
-use Rattle.v7_strokes.proofs.Names.{names_is}
+use Rattle.v7_map.proofs.Named.{names_is}
 use Rattle.v7_strokes.specs.Slots.{SlotChange, IsPlain}
 use Rattle.v7_map.proofs.Walks.{walked_reached}
 use Rattle.v7_map.proofs.Used.{walked_is_dir}

@@ -8,7 +8,8 @@ use Rattle.v7_map.specs.Weak.{IsWeak, slot_at, parent}
 use Rattle.v7_map.proofs.Children.{Descends, top, down, walked_descends, has_slot-at}
 use Rattle.v7_map.proofs.Walks.{walked_reached, reached_walked}
 use Rattle.v7_strokes.specs.Slots.{NewDirectory}
-use Rattle.v7_strokes.proofs.Names.{slot_of_any, names_is, same_number, none_slot, linked-slot}
+use Rattle.v7_map.proofs.Named.{names_is, linked-slot}
+use Rattle.v7_strokes.proofs.Names.{slot_of_any, same_number, none_slot}
 
 clash : {b : Bool} → b ≡ true → b ≡ false → ⊥
 clash {b = b} x y = cc

@@ -1,0 +1,4 @@
+pub mod Bodies
+pub mod Found
+pub mod Hits
+pub mod Answers
