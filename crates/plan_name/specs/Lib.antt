@@ -1,3 +1,5 @@
 pub mod Growth
 pub mod Removals
 pub mod Creating
+pub mod Planned
+pub mod Freeing
