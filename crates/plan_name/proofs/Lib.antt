@@ -2,6 +2,8 @@ mod Bytes
 mod Past
 mod RemovingBuilt
 mod RemovingJudged
+mod BlocksOf
+mod RemovingPlanned
 mod Fitting
 mod CreatingBuilt
 mod CreatingLaid

@@ -48,8 +48,8 @@ module _ (image : Image) (dir : FileId) (name : List ℕ) (cred : Cred) (now : �
   at_dir : is_inode image dir.ino ≡ true
   at_dir = let r = (frame-IsFrame image).numbers dir.ino ((frame-IsFrame image).directories dir.ino (removal-dir image dir name cred now d t.index t.node n strong x.removal).dir) in is_number image dir.ino r.0 r.1
 
-  at_node : is_inode image t.node ≡ true
-  at_node = let r = (frame-IsFrame image).numbers t.node (strong.weak.names.used dir.ino t.index t.node name (removal-dir image dir name cred now d t.index t.node n strong x.removal).walked (removal-slot image dir name cred now d t.index t.node n strong x.removal)).0 in is_number image t.node r.0 r.1
+  pub removed-number : is_inode image t.node ≡ true
+  removed-number = let r = (frame-IsFrame image).numbers t.node (strong.weak.names.used dir.ino t.index t.node name (removal-dir image dir name cred now d t.index t.node n strong x.removal).walked (removal-slot image dir name cred now d t.index t.node n strong x.removal)).0 in is_number image t.node r.0 r.1
 
   -- a plan of these puts, merged
   planned : (before after : List ℕ) (b1 : List ℕ) (bs cs : List (List ℕ)) (b : List ℕ) → TakesName image now dir.ino t.index t.node n before after b1 bs cs b
@@ -97,7 +97,7 @@ module _ (image : Image) (dir : FileId) (name : List ℕ) (cred : Cred) (now : �
       node' = lost (set (set image (entry_sector image dir.ino t.index) b1) (inode_sector dir.ino) b2) b3
           (subst (λ q. is_inode q t.node ≡ true → PutsInode q t.node b3 (loser q))
           (after_two image (entry_sector image dir.ino t.index) b1 (inode_sector dir.ino, b2) (inode_sector t.node, b3) im1 im2 e1 e2 plan1 plan2 plan3 l1' l2' l3) node
-          (still image ((entry_sector image dir.ino t.index, b1) ∷ (inode_sector dir.ino, b2) ∷ []) t.node (past, (omega arith, tt)) at_node))
+          (still image ((entry_sector image dir.ino t.index, b1) ∷ (inode_sector dir.ino, b2) ∷ []) t.node (past, (omega arith, tt)) removed-number))
 
       pub built-directory_first : IsPlannedRemoval image dir name cred now n t plan3
       built-directory_first = subst (IsPlannedRemoval image dir name cred now n t)
@@ -113,7 +113,7 @@ module _ (image : Image) (dir : FileId) (name : List ℕ) (cred : Cred) (now : �
       node_n = lost (set image (entry_sector image dir.ino t.index) b1) b2
           (subst (λ q. is_inode q t.node ≡ true → PutsInode q t.node b2 (loser q))
           (after_slot image (entry_sector image dir.ino t.index) b1 (inode_sector t.node, b2) (inode_sector dir.ino, b3) im1 im2 e1 e2 plan1 plan2 plan3 l1' l2 l3n) node
-          (still image ((entry_sector image dir.ino t.index, b1) ∷ []) t.node (past, tt) at_node))
+          (still image ((entry_sector image dir.ino t.index, b1) ∷ []) t.node (past, tt) removed-number))
 
       times_n : PutsInode (set (set image (entry_sector image dir.ino t.index) b1) (inode_sector t.node) b2) dir.ino b3 (timed_inode (inode_at (set (set image (entry_sector image dir.ino t.index) b1) (inode_sector t.node) b2) dir.ino) now)
       times_n = subst (λ q. is_inode q dir.ino ≡ true → PutsInode q dir.ino b3 (timed_inode (inode_at q dir.ino) now))
