@@ -3,3 +3,6 @@ mod Past
 mod Fitting
 mod CreatingBuilt
 mod CreatingLaid
+mod Usable
+mod DirectoryUsage
+mod Judged
