@@ -12,3 +12,6 @@ pub use growth::added_blocks;
 pub use judging::judge_new;
 pub use names::{create_refusal, entry_refusal, name_refusal, standing_refusal};
 pub use new_node::new_file;
+
+#[cfg(test)]
+mod tests;
