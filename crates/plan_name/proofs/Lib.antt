@@ -6,3 +6,4 @@ mod CreatingLaid
 mod Usable
 mod DirectoryUsage
 mod Judged
+mod Made

@@ -4,12 +4,14 @@
 mod creating_puts;
 mod growth;
 mod judging;
+mod making;
 mod names;
 mod new_node;
 
 pub use creating_puts::{Entry, Listing, Longer, add_at_end, add_in_place};
 pub use growth::added_blocks;
 pub use judging::judge_new;
+pub use making::{Spot, make_in_place};
 pub use names::{create_refusal, entry_refusal, name_refusal, standing_refusal};
 pub use new_node::new_file;
 
