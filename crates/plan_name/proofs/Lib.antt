@@ -7,3 +7,4 @@ mod Usable
 mod DirectoryUsage
 mod Judged
 mod Made
+mod NewInPlace

@@ -1,3 +1,4 @@
 pub mod Growth
 pub mod Creating
 pub mod Judging
+pub mod Created

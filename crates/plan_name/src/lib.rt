@@ -6,6 +6,7 @@ mod growth;
 mod judging;
 mod making;
 mod names;
+mod new_in_place;
 mod new_node;
 
 pub use creating_puts::{Entry, Listing, Longer, add_at_end, add_in_place};
@@ -13,6 +14,7 @@ pub use growth::added_blocks;
 pub use judging::judge_new;
 pub use making::{Spot, make_in_place};
 pub use names::{create_refusal, entry_refusal, name_refusal, standing_refusal};
+pub use new_in_place::{PlannedNew, plan_new_in_place};
 pub use new_node::new_file;
 
 #[cfg(test)]

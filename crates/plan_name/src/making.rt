@@ -24,7 +24,7 @@ use v7_strokes::{planned_inode, slot_of};
 /// An empty slot of a directory: its number, counted from 0, and the sector where it stands.
 #[derive(Clone, Copy)]
 pub struct Spot {
-    pub directory: u32,
+    pub directory: FileId,
     pub index: u32,
     pub sector: u32,
 }
@@ -65,16 +65,16 @@ pub fn make_in_place<S: Stable>(
     requires empty { plan.old.puts ≡ [] }
     requires room { 3 ≤ plan.old.room }
     requires number { (ino ≢ 0) × (ino < 65536) }
-    requires within { (inode_sector ino < S.sector_count store.old) × (inode_sector spot.now.directory < S.sector_count store.old) × (spot.now.sector < S.sector_count store.old) × (2 ≤ spot.now.sector) }
+    requires within { (inode_sector ino < S.sector_count store.old) × (inode_sector spot.now.directory.ino < S.sector_count store.old) × (spot.now.sector < S.sector_count store.old) × (2 ≤ spot.now.sector) }
     requires named { (length name.now ≤ 14) × All (λ byte. byte ≢ 0) name.now }
-    ensures planned { S.tells → IsStrong (frame (S.image store.old)) → (asked : Asked) (d : Node) → FitsIn (S.image store.old) asked now spot.now.directory ino spot.now.index spot.now.sector name.now wanted.now cred.now d → IfOk result (λ r. IsPlannedMaking (S.image store.old) asked now ino [] plan.new.puts × (r ≡ made_answer (S.image store.old) ino (new_file wanted.now cred.now now))) }
+    ensures planned { S.tells → IsStrong (frame (S.image store.old)) → (asked : Asked) (d : Node) → FitsIn (S.image store.old) asked now spot.now.directory.ino ino spot.now.index spot.now.sector name.now wanted.now cred.now d → IfOk result (λ r. IsPlannedMaking (S.image store.old) asked now ino [] plan.new.puts × (r ≡ made_answer (S.image store.old) ino (new_file wanted.now cred.now now))) }
     ensures fits { IfOk result (λ r. CanBePut (S.sector_count store.old) 3 plan.new.puts) }
     ensures cause { HasCause (S.faults store.old) (S.faults store.new) result }
     ensures looked { Looked S.Stable store.old store.new }
 {
     let inode = next_inode(store, plan, ino, wanted, cred, now)?;
     let entry = Entry {
-        directory: spot.directory,
+        directory: spot.directory.ino,
         index: spot.index,
         sector: spot.sector,
         slot: slot_of(ino as u16, name.bytes()),
