@@ -8,3 +8,4 @@ mod DirectoryUsage
 mod Judged
 mod Made
 mod NewInPlace
+mod StandingPlan

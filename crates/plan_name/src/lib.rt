@@ -8,6 +8,7 @@ mod making;
 mod names;
 mod new_in_place;
 mod new_node;
+mod standing;
 
 pub use creating_puts::{Entry, Listing, Longer, add_at_end, add_in_place};
 pub use growth::added_blocks;
@@ -16,6 +17,7 @@ pub use making::{Spot, make_in_place};
 pub use names::{create_refusal, entry_refusal, name_refusal, standing_refusal};
 pub use new_in_place::{PlannedNew, plan_new_in_place};
 pub use new_node::new_file;
+pub use standing::plan_standing;
 
 #[cfg(test)]
 mod tests;

@@ -1,7 +1,7 @@
 //! New files on a small volume: a root, inode 2, whose three slots stand in sector 4, and file 3 with its name in slot 2.
 
 use super::*;
-use files_model::{Attr, Cred, Gids, Kind, Name, Sattr, Stat};
+use files_model::{Attr, Cred, FileId, Gids, Kind, Name, Reply, Sattr, Stat};
 use stable::{Failed, Plan, Stable};
 use std::alloc::Global;
 use std::test::Fail;
@@ -84,6 +84,68 @@ fn a_file_is_made_in_a_slot_and_at_the_end(rt: HostRuntime) -> Result<(), Fail> 
             root.size == size && root.mtime == 2000 && root.ctime == 2000 && root.atime == 1000
         );
     }
+    Ok(())
+}
+
+// A file is made at second 2000 in slot 2 of the root.
+fn plan_first(alloc: Global, store: &mut Memory, sets: &mut Sets) -> Result<PlannedNew, Fail> {
+    if store.sectors() < 64 {
+        return Err("no volume".into());
+    }
+    let root = FileId {
+        ino: 2,
+        generation: 1,
+    };
+    let spot = Spot {
+        directory: root,
+        index: 2,
+        sector: 4,
+    };
+    let name = Name::copy(b"new");
+    let planned = plan_new_in_place(
+        alloc,
+        store,
+        sets,
+        &directory(48),
+        &spot,
+        &name,
+        &NOTHING,
+        &caller(),
+        2000,
+    );
+    Ok(planned.map_err(|_| "not planned")?)
+}
+
+#[test]
+fn a_number_is_taken_once(rt: HostRuntime) -> Result<(), Fail> {
+    let alloc = rt.alloc();
+    let mut store = volume(alloc)?;
+    let mut sets = Sets::new(alloc, 64, 17).map_err(|_| "memory")?;
+    sets.inodes.give(5);
+    let first = plan_first(alloc, &mut store, &mut sets)?;
+    assert!(rt; first.plan.puts().len() == 3 && sets.inodes.count() == 0);
+    let Reply::Handle { file, attr } = first.reply else {
+        return Err("no handle".into());
+    };
+    assert!(rt; file.ino == 5 && file.generation == 1 && attr.fileid == 5 && attr.mode == 0o666);
+    let second = plan_first(alloc, &mut store, &mut sets)?;
+    assert!(rt; second.plan.puts().len() == 0);
+    assert!(rt; matches!(second.reply, Reply::Refused(Stat::Nospc)));
+    Ok(())
+}
+
+#[test]
+fn a_file_that_stands_gets_its_size(rt: HostRuntime) -> Result<(), Fail> {
+    let alloc = rt.alloc();
+    let mut store = volume(alloc)?;
+    let file = FileId {
+        ino: 3,
+        generation: 1,
+    };
+    let planned = plan_standing(alloc, &mut store, file, 0, &caller(), 2000);
+    let planned = planned.map_err(|_| "not planned")?;
+    assert!(rt; planned.plan.puts().len() == 1 && planned.freed.len() == 2);
+    assert!(rt; matches!(planned.reply, Reply::Handle { .. }));
     Ok(())
 }
 

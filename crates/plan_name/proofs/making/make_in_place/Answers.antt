@@ -21,8 +21,7 @@ returns-clause-planned g c = λ tells strong asked d x.
     let entry : Entry = record { directory = spot.directory.ino; index = spot.index; sector = spot.sector; slot = c.slot_of.result } in
     let slot = c.slot_of.ensures ∙ ap (λ (n : List ℕ). Some (c.args.ino, n)) c.bytes.ensures.bytes in
     let makes : Makes image asked c.args.now c.args.ino c.in_ok-inode.inode entry c.args.name.now d (new_file c.args.wanted.now c.args.cred.now c.args.now) =
-        fits-makes image asked c.args.now spot.directory.ino c.args.ino spot.index spot.sector c.args.name.now c.args.wanted.now c.args.cred.now d strong x c.in_ok-inode.inode made entry refl refl slot in
-    (
+    fits-makes image asked c.args.now spot.directory.ino c.args.ino spot.index spot.sector c.args.name.now c.args.wanted.now c.args.cred.now d strong x c.in_ok-inode.inode made entry refl refl slot in (
       subst (λ (z : Image). IsPlannedMaking z asked c.args.now c.args.ino [] c.add_in_place.new.plan.puts) same
           (c.in_ok-add_in_place.ensures.planned tells (subst (λ (z : Image). IsStrong (frame z)) (sym same) strong) asked c.args.name.now d (new_file c.args.wanted.now c.args.cred.now c.args.now)
           (subst (λ (z : Image). Makes z asked c.args.now c.args.ino c.in_ok-inode.inode entry c.args.name.now d (new_file c.args.wanted.now c.args.cred.now c.args.now)) (sym same) makes)

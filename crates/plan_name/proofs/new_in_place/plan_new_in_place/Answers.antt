@@ -37,7 +37,7 @@ returns-clause-planned g c = λ tells d told free place stands.
     let dir = spot.directory in
     let may = c.in-Ok.ensures image dir.ino d c.args.name.now c.args.now told in
     let fits = new-fits image dir c.args.name.now c.args.wanted.now c.args.cred.now c.args.now d told.strong free c.in-Ok.number may spot.index spot.sector place
-        (subst (λ (k : ℕ). k < length d.slots) (sym place) (inside-of d told.end)) stands in
+    (subst (λ (k : ℕ). k < length d.slots) (sym place) (inside-of d told.end)) stands in
     let made = c.in_ok-reply.ensures.planned tells told.strong (Create dir c.args.name.now c.args.wanted.now, c.args.cred.now) d fits in
     new-planned image dir c.args.name.now c.args.wanted.now c.args.cred.now c.args.now d told.strong free c.in-Ok.number may record { blocks = c.args.sets.now.blocks; inodes = c.take.new.self }
     c.args.sets.now.blocks c.args.sets.now.inodes c.make_in_place.new.plan.puts c.in_ok-reply.reply told.sets refl c.take.ensures made.0 made.1
