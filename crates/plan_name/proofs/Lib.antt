@@ -7,3 +7,9 @@ mod RemovingPlanned
 mod Fitting
 mod CreatingBuilt
 mod CreatingLaid
+mod Usable
+mod DirectoryUsage
+mod Judged
+mod Made
+mod NewInPlace
+mod StandingPlan

@@ -3,3 +3,5 @@ pub mod Removals
 pub mod Creating
 pub mod Planned
 pub mod Freeing
+pub mod Judging
+pub mod Created
