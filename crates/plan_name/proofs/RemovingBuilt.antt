@@ -19,13 +19,15 @@ use Rattle.v7_strokes.specs.Entries.{entry_sector}
 use Rattle.v7_strokes.specs.Inodes.{timed_inode, loser_inode, ended_inode, unlinked_inode}
 use Rattle.v7_strokes.specs.Merged.{merged}
 use Rattle.v7_strokes.specs.Slots.{PutsSlot}
-use Rattle.v7_strokes.proofs.Merging.{merged-all, merged-plan, merged-with}
+use Rattle.v7_strokes.proofs.Merging.{merged-all, merged-plan, merged-with, length-with_put}
 use Rattle.name_plans.specs.Removed.{frees_number, number_given}
 use Rattle.name_plans.specs.Removing.{TakesName, removing_puts}
 use Rattle.name_plans.proofs.RemovingAccepted.{removal-dir, removal-slot}
 use Rattle.name_plans.proofs.RemovingPlan.{removal-plan, removal-past_list}
 use Rattle.name_plans.proofs.RemovingSets.{removal-sets}
-use Rattle.plan_name.specs.Removals.{Takes, IsPlannedRemoval}
+use Rattle.plan_name.specs.Creating.{CanBePut}
+use Rattle.plan_name.specs.Removals.{Takes, IsPlannedRemoval, TakenWithin}
+use Rattle.plan_name.proofs.Fitting.{all-with_put}
 use Rattle.plan_name.specs.declared.removing_puts.Taking.{Taking}
 use Rattle.plan_name.proofs.Past.{still, is_number}
 
@@ -125,3 +127,12 @@ module _ (image : Image) (dir : FileId) (name : List ℕ) (cred : Cred) (now : �
       built-node_first = subst (IsPlannedRemoval image dir name cred now n t)
           (sym (three image (entry_sector image dir.ino t.index) b1 (inode_sector t.node, b2) (inode_sector dir.ino, b3) im1 im2 e1 e2 plan1 plan2 plan3 l1' l2 l3n))
           (planned [] (dir.ino ∷ []) b1 [] (b3 ∷ []) b2 (record { entry = slot'; one = refl; first = tt; node = node_n; last = (times_n, tt) }))
+
+-- the puts can be put
+pub fits-removal : (sectors : ℕ) (t : Taking) → TakenWithin sectors t → (b1 : List ℕ) (x y : ℕ × List ℕ) → 2 ≤ x.0 → x.0 < sectors → 2 ≤ y.0 → y.0 < sectors → CanBePut sectors 3 (with_put (with_put ((t.sector, b1) ∷ []) x) y)
+fits-removal sectors t within b1 x y px sx py sy =
+    let one = length-with_put ((t.sector, b1) ∷ []) x in let two = length-with_put (with_put ((t.sector, b1) ∷ []) x) y in record {
+      few = omega arith;
+      stand = all-with_put (λ (p : ℕ × List ℕ). p.0 < sectors) (with_put ((t.sector, b1) ∷ []) x) y (all-with_put (λ (p : ℕ × List ℕ). p.0 < sectors) ((t.sector, b1) ∷ []) x (within.slot, tt) sx) sy;
+      past = all-with_put (λ (p : ℕ × List ℕ). 2 ≤ p.0) (with_put ((t.sector, b1) ∷ []) x) y (all-with_put (λ (p : ℕ × List ℕ). 2 ≤ p.0) ((t.sector, b1) ∷ []) x (within.past, tt) px) py;
+    }

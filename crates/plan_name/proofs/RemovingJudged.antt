@@ -1,5 +1,5 @@
 -- What a REMOVE in a directory that stands comes to, by the records of an image with nothing to mend.
-use Rattle.std.proofs.Common.{◌≡◌, ℕ, ◌/◌, Bool, true, false, cond, not, ◌&&◌, ◌==◌, List, [], ◌∷◌, Option, Some, None, refl, sym, ap, subst, ◌∙◌, eqb}
+use Rattle.std.proofs.Common.{◌≡◌, ℕ, ◌/◌, ◌<◌, ◌≤◌, ◌≢◌, arith, Bool, true, false, cond, not, ◌&&◌, ◌==◌, List, [], ◌∷◌, Option, Some, None, refl, sym, ap, subst, ◌∙◌, eqb}
 use Rattle.std.specs.FinMap.{get}
 use Rattle.std.specs.List.{position}
 use Rattle.files_model.specs.declared.attributes.Attr.{Attr}
@@ -30,10 +30,11 @@ use Rattle.v7_map.specs.declared.found.Found.{Found}
 use Rattle.v7_map.proofs.Frames.{and_left, and_right}
 use Rattle.v7_map.proofs.Standing.{live-standing, attr_of-stored, node-is}
 use Rattle.v7_strokes.specs.Entries.{entry_sector}
-use Rattle.v7_entries.specs.Bodies.{HasBody, slots_at}
+use Rattle.v7_dir.proofs.Firsts.{passes_at}
+use Rattle.v7_entries.specs.Bodies.{HasBody, slots_at, block_at}
 use Rattle.v7_entries.specs.Found.{IsNamedSlot}
 use Rattle.v7_entries.specs.declared.named.NamedSlot.{NamedSlot}
-use Rattle.v7_entries.proofs.Directories.{weak_body}
+use Rattle.v7_entries.proofs.Directories.{weak_body, slots_are}
 use Rattle.v7_entries.proofs.Lookups.{kind_directory, first_passed, named_used, used_inode}
 use Rattle.name_plans.specs.Removing.{IsRemoval}
 use Rattle.plan_name.specs.Removals.{Refuses, IsTaken}
@@ -171,6 +172,20 @@ module _ (image : Image) (dir : FileId) (name : List ℕ) (cred : Cred) (found :
       entry_at : entry.sector ≡ entry_sector image dir.ino entry.slot
       unfolding frame
       entry_at = named.sector ∙ ap (λ m. frames.address_of image (frames.head_of m) (frames.Body (entry.slot / 32))) is.inode
+
+      -- it stands among the data blocks
+      pub judged-past : 2 ≤ entry.sector
+      unfolding frame
+      judged-past =
+          let has = weak_body image dir.ino strong.weak judged-directory in
+          let at = passes_at (has_name name) (frames.slot_in image (frames.head_of n)) (n.size / 16) entry.slot (ap (position (has_name name)) (sym (slots_are image n has)) ∙ first) in
+          let inside : entry.slot < n.size / 16 = at.0 in
+          let low = (strong.weak.data_block dir.ino (frames.Body (entry.slot / 32)) (stands_at (has.some (entry.slot / 32) (omega arith)))).0 in
+          let least = strong.weak.sizes.low in
+          let from : (frame image).isize ≤ entry.sector = subst (λ a. (frame image).isize ≤ a) (sym entry_at) low in omega arith
+        where
+          stands_at : block_at image n (entry.slot / 32) ≢ 0 → (frame image).address dir.ino (frames.Body (entry.slot / 32)) ≢ 0
+          stands_at h = h
 
       pub judged-taken : (taking : Taking) → taking ≡ record { directory = dir.ino; index = entry.slot; sector = entry.sector; node = entry.ino; last = (inode_at image entry.ino).nlink == 1 }
           → first_of ((is_directory (stored_attr entry.ino (inode_at image entry.ino)).kind, stat.Isdir) ∷ (not (allows cred (stored_attr dir.ino found.inode) want.Write && allows cred (stored_attr dir.ino found.inode) want.Search), stat.Acces) ∷ []) ≡ None

@@ -1,5 +1,5 @@
 -- What a builder is told of a removal, and what its plan comes to.
-use Rattle.std.specs.Prelude.{◌≡◌, ◌<◌, ℕ, ◌==◌, Bool, List, [], ◌∷◌}
+use Rattle.std.specs.Prelude.{◌≡◌, ◌<◌, ◌≤◌, ℕ, ◌==◌, Bool, List, [], ◌∷◌}
 use Rattle.files_model.specs.declared.attributes.FileId.{FileId}
 use Rattle.files_model.specs.declared.call.Call.TheVariants.{Remove}
 use Rattle.files_model.specs.declared.credential.Cred.{Cred}
@@ -37,8 +37,9 @@ pub record IsPlannedRemoval (image : Image) (dir : FileId) (name : List ℕ) (cr
   pub sets : (freed : List ℕ) → AreFreed (n.nlink == 1) (frame image) taking.node freed → (blocks inodes : List Bool) → AreSetsOf image blocks inodes
       → AreSetsOf (put_all puts image) (given freed blocks) (number_given (frees_number (view image) taking.node n) taking.node inodes)
 
--- the sectors of the slot and of the two inodes are among so many
+-- the sectors of the slot and of the two inodes are among so many, and the slot's is past the super-block
 pub record TakenWithin (sectors : ℕ) (taking : Taking) : Type 0 where
+  pub past : 2 ≤ taking.sector
   pub slot : taking.sector < sectors
   pub directory : inode_sector taking.directory < sectors
   pub node : inode_sector taking.node < sectors

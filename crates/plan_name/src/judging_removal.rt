@@ -90,6 +90,10 @@ pub(crate) fn judge_removal<S: Stable>(
     let Some(entry) = find_entry(store, &found.inode, name)? else {
         return Ok(Judged::Refused(Stat::Noent));
     };
+    // no directory stands in the first two sectors
+    if entry.sector < 2 {
+        return Ok(Judged::Refused(Stat::Noent));
+    }
     let Some(inode) = read_inode(store, entry.ino as u32)? else {
         return Ok(Judged::Refused(Stat::Noent));
     };

@@ -1,4 +1,4 @@
-use Rattle.std.proofs.Common.{◌≡◌, true, not, ◌==◌, ◌&&◌, ◌∷◌, [], sym, ap, subst, ◌∙◌, Some, None, Option}
+use Rattle.std.proofs.Common.{◌≡◌, true, not, ◌==◌, ◌&&◌, ◌∷◌, [], sym, ap, subst, ◌∙◌, Some, None, Option, arith}
 use Rattle.files_model.specs.declared.attributes.Attr.{Attr}
 use Rattle.files_model.specs.declared.permission.Want.TheVariants as want
 use Rattle.files_model.specs.declared.reply.Stat.{Stat}
@@ -14,7 +14,7 @@ use Rattle.v7_map.specs.Stored.{stored_attr}
 use Rattle.v7_map.specs.Weak.{IsWeak}
 use Rattle.plan_name.specs.Removals.{IsTaken}
 use Rattle.v7_entries.specs.Found.{FindsName, IsNamedSlot}
-use Rattle.plan_name.proofs.RemovingJudged.{judged-refused, judged-absent, judged-loss, judged-taken, judged-body, judged-number, none_of, no_some, same_inode}
+use Rattle.plan_name.proofs.RemovingJudged.{judged-refused, judged-absent, judged-loss, judged-taken, judged-body, judged-number, judged-past, none_of, no_some, same_inode}
 use Rattle.plan_name.proofs.judging_removal.judge_removal.Goals as goal
 
 pub returns-in-Some-clause-judged : goal.returns-in-Some-clause-judged
@@ -72,3 +72,12 @@ returns-clause-judged g c = λ tells strong is.
     subst (IsTaken image c.args.dir c.args.name.now c.args.cred.now c.taking_of.result) (sym read)
     (judged-taken image c.args.dir c.args.name.now c.args.cred.now c.args.found.now strong is passed c.in-Some-2.entry named c.taking_of.result
     (c.taking_of.ensures ∙ ap (λ (m : Inode). record { directory = c.args.dir.ino; index = c.in-Some-2.entry.slot; sector = c.in-Some-2.entry.sector; node = c.in-Some-2.entry.ino; last = m.nlink == 1 }) read) (loss ∙ c.in-None-loss_refusal.is))
+
+pub returns-then-entry-lt2-clause-judged : goal.returns-then-entry-lt2-clause-judged
+returns-then-entry-lt2-clause-judged g c = λ tells strong is now.
+    let image : Image = g.S.Stable.image c.args.store.now in
+    let passed = sym (ap (λ (a : Attr). first_of ((c.args.found.now.read_only, stat.Rofs) ∷ (not (is_directory a.kind), stat.Notdir) ∷ name_tests c.args.name.now)) c.attributes_of-attr.ensures) ∙ sym c.in-None.ensures in
+    let found : FindsName image c.args.found.now.inode c.args.name.now c.in_ok-entry.field-0 = c.in_ok-entry.ensures.found tells (judged-body image c.args.dir c.args.name.now c.args.cred.now c.args.found.now strong is passed) in
+    let named : IsNamedSlot image c.args.found.now.inode c.args.name.now c.in-Some-2.entry = subst (FindsName image c.args.found.now.inode c.args.name.now) c.in-Some-2.is found in
+    let past = judged-past image c.args.dir c.args.name.now c.args.cred.now c.args.found.now strong is passed c.in-Some-2.entry named in
+    let low = c.if-entry-lt2.true in absurd (omega arith)
