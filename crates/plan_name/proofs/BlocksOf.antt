@@ -38,7 +38,7 @@ module _ (places : List ℕ) where
           (λ (e : n ≡ i). absurd (nz (ap (λ q. get_or places q 0) e ∙ zero')))
           (λ (ne : n ≢ i). x.each n (omega arith) nz)
           (cases_eq n i);
-      only = λ b h. let r = x.only b h in let lt = r.1 in (r.0, omega arith, r.2);
+      only = λ b h. let r = x.only b h in let lt = r.1 in (r.0, omega arith, r.2, r.3);
     }
 
     pub blocks-more : get_or places i 0 ≢ 0 → (more : List ℕ) → more ≡ bs ++ get_or places i 0 ∷ [] → AreBlocksOf places (i + 1) more
@@ -48,7 +48,7 @@ module _ (places : List ℕ) where
           (λ (ne : n ≢ i). ap (λ t. t || (eqb (get_or places i 0) (get_or places n 0) || false)) (x.each n (omega arith) nz))
           (cases_eq n i);
       only = λ b h. ⊎_elim
-          (λ (old : is_among b bs ≡ true). let r = x.only b old in let lt = r.1 in (r.0, omega arith, r.2))
+          (λ (old : is_among b bs ≡ true). let r = x.only b old in let lt = r.1 in (r.0, omega arith, r.2, r.3))
           (λ (new : (eqb (get_or places i 0) b || false) ≡ true). (i, omega arith, some, eqb-true (get_or places i 0) b (sym (or_no (eqb (get_or places i 0) b)) ∙ new)))
           (or_cases (is_among b bs) (eqb (get_or places i 0) b || false) (sym (split b) ∙ h));
     }
@@ -65,7 +65,7 @@ module _ (places : List ℕ) where
 pub frees-all : (image : Image) (inode : Inode) (places blocks : List ℕ) → ArePlaces image inode places → AreBlocksOf places 139 blocks → Frees image inode true blocks
 frees-all image inode places blocks are x = record {
   each = λ _ n lt nz. subst (λ a. is_among a blocks ≡ true) (are.each n (omega arith)) (x.each n lt (λ z. nz (sym (are.each n (omega arith)) ∙ z)));
-  only = λ b h. let r = x.only b h in let lt = r.1 in let same = are.each r.0 (omega arith) in (refl, (r.0, lt, (λ z. r.2.0 (same ∙ z)), sym same ∙ r.2.1));
+  only = λ b h. let r = x.only b h in let lt = r.1 in let same = are.each r.0 (omega arith) in (refl, (r.0, lt, (λ z. r.2 (same ∙ z)), sym same ∙ r.3));
 }
 
 pub frees-none : (image : Image) (inode : Inode) → Frees image inode false []
@@ -76,7 +76,7 @@ pub freed-of : (image : Image) (i : ℕ) (ended : Bool) (blocks : List ℕ) → 
 unfolding frame
 freed-of image i ended blocks strong x = record {
   each = λ e p nz. each e p nz;
-  only = λ b h. let r = x.only b h in (r.0, (place_at r.1.0, r.1.2.0, r.1.2.1));
+  only = λ b h. let r = x.only b h in (r.0, (place_at r.1.0, r.1.2, r.1.3));
 }
   where
     each : ended ≡ true → (p : Place) → address_of image (head_of (inode_at image i)) p ≢ 0 → is_among (address_of image (head_of (inode_at image i)) p) blocks ≡ true

@@ -81,3 +81,10 @@ removal-planned image dir name cred now taking inode puts blocks number strong t
 
     same : (inodes : List Bool) → number_back number inodes ≡ number_given (frees_number (view image) taking.node t.node) taking.node inodes
     same inodes = ap (λ o. number_back o inodes) is ∙ number-same (taking.last && ltb inode.generation 4294967295) taking.node inodes ∙ ap (λ b. number_given b taking.node inodes) gives
+
+-- the same of what is equal
+pub same-freeing : (image : Image) (asked : Asked) (now : ℕ) {puts puts' : List (ℕ × List ℕ)} {answer answer' : Reply} {blocks blocks' : List ℕ} {number number' : Option ℕ} → puts ≡ puts' → answer ≡ answer' → blocks ≡ blocks' → number ≡ number'
+    → IsPlannedFreeing image asked now puts' answer' blocks' number' → IsPlannedFreeing image asked now puts answer blocks number
+same-freeing image asked now {puts} {puts'} {answer} {answer'} {blocks} {blocks'} {number} {number'} a b c d planned =
+    subst (λ ps. IsPlannedFreeing image asked now ps answer blocks number) (sym a) (subst (λ r. IsPlannedFreeing image asked now puts' r blocks number) (sym b)
+    (subst (λ f. IsPlannedFreeing image asked now puts' answer' f number) (sym c) (subst (λ n. IsPlannedFreeing image asked now puts' answer' blocks' n) (sym d) planned)))
