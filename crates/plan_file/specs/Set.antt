@@ -16,6 +16,7 @@ use Rattle.v7_map.specs.Plans.{IsPlanOf}
 use Rattle.v7_map.specs.Stored.{sector_in, stored_sector}
 use Rattle.v7_map.specs.View.{view}
 use Rattle.v7_map.specs.declared.found.Found.{Found}
+pub use Rattle.v7_sets.specs.Given.{given}
 use Rattle.v7_sets.specs.Sets.{AreSetsOf}
 use Rattle.plan_file.specs.declared.places.Places.{Places}
 use Rattle.plan_file.specs.Found.{ReplacesInode}
@@ -57,11 +58,6 @@ pub record AreShorterPuts (image : Image) (ino : ℕ) (found : Found) (attr : At
 pub data AreSetPuts (image : Image) (ino : ℕ) (found : Found) (attr : Attr) (puts : List (ℕ × List ℕ)) : List ℕ → Type 0 where
   kept : found.inode.size ≤ attr.size → AreKeptPuts image ino found attr puts → AreSetPuts image ino found attr puts []
   shorter : (freed : List ℕ) → attr.size < found.inode.size → AreShorterPuts image ino found attr puts freed → AreSetPuts image ino found attr puts freed
-
--- a set that was given these
-abbrev pub given : List ℕ → List Bool → List Bool
-given [] blocks = blocks
-given (a ∷ rest) blocks = given rest (set blocks a true)
 
 -- What a SETATTR comes to: its plan, its answer, and the blocks that the sets of what is free are to be given once the plan is put.
 pub record IsPlannedSet (image : Image) (file : FileId) (wanted : Sattr) (cred : Cred) (now : ℕ) (puts : List (ℕ × List ℕ)) (reply : Reply) (freed : List ℕ) : Type 0 where

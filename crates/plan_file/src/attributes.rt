@@ -12,8 +12,8 @@ use v7_map::SIZE_LIMIT;
 /// The id that stands for one above 16 bits, which is nobody's.
 const NOBODY: u16 = 65_534;
 
-// An id of 16 bits.
-fn id_of(id: u32) -> u16
+/// An id of 16 bits: a greater one is that of nobody, 65,534.
+pub fn id_of(id: u32) -> u16
     ensures { result ≡ id_of id }
 {
     if id > 65_535 {

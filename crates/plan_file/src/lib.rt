@@ -16,6 +16,7 @@ mod set_plan;
 mod shorter;
 mod started;
 
+pub use attributes::id_of;
 pub use batch_plan::{Planned, plan_writes};
 pub use fault::PlanFault;
 pub use laws::batch_is_planned;

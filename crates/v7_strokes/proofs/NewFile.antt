@@ -102,3 +102,8 @@ module _ (image : Image) (i generation : ℕ) (m : Node) (regular : m.kind ≡ R
     link = one;
     no_slots = slots;
   }
+
+  -- it has no blocks
+  pub made-bare : (p : Place) → address_of image (head_of (made_inode m generation)) p ≡ 0
+  unfolding h
+  made-bare = none

@@ -1,0 +1,10 @@
+pub mod CreatingAccepted
+pub mod CreatingInPlace
+pub mod CreatingAtEnd
+pub mod Lengthening
+pub mod CreatingLonger
+pub mod CreatingSets
+pub mod RemovingAccepted
+pub mod RemovingPlan
+pub mod RemovingSets
+pub mod CreatingStanding

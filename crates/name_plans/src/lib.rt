@@ -1,0 +1,12 @@
+//! Laws of plans of names: the calls that make and take away names.
+#![tactic(auto)]
+
+mod creating;
+mod removing;
+
+pub use creating::{
+    a_create_of_a_standing_file_sets_its_size, a_creation_at_the_end_is_planned,
+    a_creation_in_place_is_planned, a_creation_with_new_blocks_is_planned,
+    an_accepted_create_makes_a_file, the_sets_follow_a_creation,
+};
+pub use removing::{a_removal_is_planned, the_sets_follow_a_removal};
