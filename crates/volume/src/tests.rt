@@ -5,7 +5,6 @@ ghost use Rattle.files_model.specs.Step.{has_row};
 ghost use Rattle.volume.specs.Rests.{Rests};
 
 mod growth;
-mod looking;
 
 use crate::{Outcome, Volume};
 use files_model::{Attr, Call, Cred, Data, FileId, Gids, Kind, Reply, Stat};
