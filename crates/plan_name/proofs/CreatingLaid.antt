@@ -1,11 +1,10 @@
 -- The strokes of a creation at the end of its directory, one after the other, are its plan.
-use Rattle.std.proofs.Common.{◌≡◌, ◌≢◌, ℕ, ◌+◌, ◌-◌, ◌/◌, ◌^◌, ◌<◌, ◌≤◌, ◌==◌, Bool, true, false, cond, List, [], ◌∷◌, ◌++◌, length, get_or, set, sym, ap, subst, ◌∙◌, arith, ⊎_elim, Option, Some, None}
+use Rattle.std.proofs.Common.{◌≡◌, ◌≢◌, ℕ, ◌+◌, ◌/◌, ◌^◌, ◌<◌, ◌≤◌, ◌==◌, true, false, cond, List, [], ◌∷◌, ◌++◌, length, get_or, set, sym, ap, subst, ◌∙◌, arith, ⊎_elim, Option, Some, None}
 use Rattle.std.proofs.lemmas.Bool.{cases_eq, ne_eqb}
 use Rattle.std.specs.List.{AllByRecursion}
 use Rattle.v7_layout.specs.declared.inode.Inode.{Inode}
 use Rattle.files_model.specs.Answers.{zeros}
-use Rattle.files_model.specs.Files.{Node, Slot}
-use Rattle.files_model.specs.Names.{place_for}
+use Rattle.files_model.specs.Files.{Node}
 use Rattle.files_model.specs.Space.{size_limit}
 use Rattle.files_model.specs.Torn.{Asked}
 use Rattle.stable.specs.Puts.{put_all, with_put}
@@ -13,7 +12,6 @@ use Rattle.stable.specs.Store.{Image}
 use Rattle.v7_map.specs.Image.{sector_at, is_inode, inode_at, inode_sector, isize_of}
 use Rattle.v7_map.specs.Frame.{Place, Body, Single, frame}
 use Rattle.v7_map.specs.Tree.{tree, is_named}
-use Rattle.v7_map.specs.View.{view}
 use Rattle.v7_map.specs.Weak.{IsStrong}
 use Rattle.v7_map.specs.Plan.{PutsInode}
 use Rattle.v7_map.proofs.Data.{same_inode}
