@@ -1,5 +1,5 @@
 -- CREATE of a name that a regular file has does what a SETATTR of its size does.
-use Rattle.std.proofs.Common.{◌≡◌, ◌≢◌, ℕ, Bool, true, false, cond, not, ◌&&◌, List, [], ◌∷◌, ◌++◌, refl, sym, ap, subst, ◌∙◌, arith, inl, inr, ⊎_elim, ltb, eq-eqb, is_some, Option, Some, None, unwrap_or}
+use Rattle.std.proofs.Common.{◌≡◌, ◌≢◌, ℕ, Bool, true, false, cond, not, ◌&&◌, List, [], ◌∷◌, ◌++◌, refl, sym, ap, subst, ◌∙◌, arith, inl, inr, ⊎_elim, ltb, eq-eqb, is_some, Some, None, unwrap_or}
 use Rattle.std.specs.List.{position}
 use Rattle.std.specs.FinMap.{get}
 use Rattle.files_model.specs.declared.attributes.FileId.{FileId}
@@ -9,7 +9,6 @@ use Rattle.files_model.specs.declared.attributes.Kind.TheVariants.{Regular, Dire
 use Rattle.files_model.specs.declared.credential.Cred.{Cred}
 use Rattle.files_model.specs.declared.call.Call.TheVariants as call
 use Rattle.files_model.specs.declared.permission.Want.TheVariants as want
-use Rattle.files_model.specs.declared.reply.Stat.{Stat}
 use Rattle.files_model.specs.declared.reply.Stat.TheVariants as stat
 use Rattle.files_model.specs.declared.reply.Reply.{Reply}
 use Rattle.files_model.specs.declared.reply.Reply.TheVariants as reply
@@ -39,10 +38,6 @@ use Rattle.name_plans.proofs.CreatingAccepted.{first_none}
 
 -- ---- torn files of one call are those of another that leaves the same files
 
-is_setattr : Asked → Bool
-is_setattr (call.Setattr file set, cred) = true
-is_setattr _ = false
-
 head_is : (a b : Asked) → a ∷ [] ≡ b ∷ [] → a ≡ b
 head_is a b e = cc
 
@@ -58,12 +53,12 @@ module _ (files : Files) (file : FileId) (set : Sattr) (cred : Cred) (now : ℕ)
       (λ r. ⊎_elim
       (λ (t : TornTimes files ((call.Setattr file set, cred) ∷ []) now torn). inr (inr (inr (inl (times t)))))
       (λ r. ⊎_elim
-      (λ (t : TornRename files ((call.Setattr file set, cred) ∷ []) now torn). absurd (no_rename (call.Setattr file set, cred) t.asked t.from t.name t.to t.new_name (head_is (call.Setattr file set, cred) t.asked t.one) t.kind))
+      (λ (t : TornRename files ((call.Setattr file set, cred) ∷ []) now torn). absurd (no_rename t.asked t.from t.name t.to t.new_name (head_is (call.Setattr file set, cred) t.asked t.one) t.kind))
       (λ (t : TornCreation files ((call.Setattr file set, cred) ∷ []) now torn). absurd (no_creation t.asked (head_is (call.Setattr file set, cred) t.asked t.one) t.kind))
       r) r) r) r) h
     where
-      no_rename : (a x : Asked) (from : FileId) (name : List ℕ) (to : FileId) (new_name : List ℕ) → (call.Setattr file set, cred) ≡ x → x.0 ≡ call.Rename from name to new_name → ⊥
-      no_rename a x from name to new_name e k = cc
+      no_rename : (x : Asked) (from : FileId) (name : List ℕ) (to : FileId) (new_name : List ℕ) → (call.Setattr file set, cred) ≡ x → x.0 ≡ call.Rename from name to new_name → ⊥
+      no_rename x from name to new_name e k = cc
 
       no_creation : (x : Asked) → (call.Setattr file set, cred) ≡ x → makes_node x.0 ≡ true → ⊥
       no_creation x e k = cc
@@ -154,9 +149,6 @@ module _ (image : Image) (dir : FileId) (name : List ℕ) (wanted : Sattr) (cred
       ∙ ap (λ r. unless (view image) r (reply.Attr (attr_of i (set_node n (size_alone size) now)), with_node (view image) i (set_node n (size_alone size) now)))
       (refusal (view image).read_only writable n.kind kind)
     where
-      tests : Bool → Kind → Option Stat
-      tests ro kind = setattr_refusal ro (record (attr_of i n) { kind = kind }) (size_alone size) cred
-
       refusal : (ro : Bool) → ro ≡ false → (kind : Kind) → kind ≡ Regular
           → setattr_refusal ro (record (attr_of i n) { kind = kind }) (size_alone size) cred ≡ first_of ((not (allows cred (record (attr_of i n) { kind = kind }) want.Write), stat.Acces) ∷ (ltb size_limit size, stat.Fbig) ∷ [])
       refusal true e Regular k = absurd (cc)

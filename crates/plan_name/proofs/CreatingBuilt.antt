@@ -55,12 +55,6 @@ module _ (image : Image) (asked : Asked) (now i : ℕ) (n : Inode) (entry : Entr
       (l2 : plan2 ≡ plan1 ++ (entry.sector, b2) ∷ []) (slot : PutsSlot (sector_at (put_all plan1 im1) entry.sector) entry.index b2 (slot_from entry.slot))
       (l3 : plan3 ≡ with_put plan2 (inode_sector entry.directory, b3))
       (times : is_inode (put_all plan2 im2) entry.directory ≡ true → PutsInode (put_all plan2 im2) entry.directory b3 (timed_inode (inode_at (put_all plan2 im2) entry.directory) now)) where
-    p : ℕ
-    p = entry.directory
-
-    k : ℕ
-    k = place_for d.slots
-
     inside' : place_for d.slots < length d.slots
     inside' = subst (λ j. j < length d.slots) x.place inside
 

@@ -54,15 +54,6 @@ module _ (image : Image) (asked : Asked) (now i : ℕ) (n : Inode) (entry : Entr
     (l3 : plan3 ≡ plan2 ++ map_puts longer.map) (l4 : plan4 ≡ with_put plan3 (inode_sector entry.directory, b3))
     (last : is_inode (put_all plan3 im2) entry.directory ≡ true → (inode_at (put_all plan3 im2) entry.directory).size + 16 < 2 ^ 32
     → PutsInode (put_all plan3 im2) entry.directory b3 (longer_inode (inode_at (put_all plan3 im2) entry.directory) longer.blocks.direct longer.blocks.single now)) where
-  p : ℕ
-  p = entry.directory
-
-  q : ℕ
-  q = length d.slots / 32
-
-  maps : List (ℕ × List ℕ)
-  maps = map_puts longer.map
-
   first' : PutsInode image i b1 n
   first' = first (made-number image asked now i n entry name d m strong x)
 
@@ -141,9 +132,6 @@ module _ (image : Image) (asked : Asked) (now i : ℕ) (n : Inode) (entry : Entr
       (λ (z : (frame image).address entry.directory r ≡ 0). (lays_image.fresh r z nz).low)
       (λ (h : (frame image).address entry.directory r ≢ 0). subst (λ a. (frame image).isize ≤ a) (sym (lays_image.kept r h)) (strong.weak.data_block entry.directory r h).0)
       (cases_eq ((frame image).address entry.directory r) 0)
-
-  rest : List (ℕ × List ℕ)
-  rest = (target (Body (length d.slots / 32)), b2) ∷ map_puts longer.map
 
   rest_past : AllByRecursion (λ (r : ℕ × List ℕ). (frame image).isize ≤ r.0) ((target (Body (length d.slots / 32)), b2) ∷ map_puts longer.map)
   rest_past = (target_low (Body (length d.slots / 32)) lays_image.held, by_map map_image)
