@@ -1,16 +1,14 @@
 -- CREATE of a name that a regular file has does what a SETATTR of its size does.
-use Rattle.std.proofs.Common.{◌≡◌, ◌≢◌, ℕ, ◌+◌, ◌<◌, ◌≤◌, Bool, true, false, cond, not, ◌&&◌, ◌||◌, ◌==◌, List, [], ◌∷◌, ◌++◌, refl, sym, ap, subst, ◌∙◌, arith, inl, inr, ⊎_elim, eqb, ltb, eq-eqb, is_some, Option, Some, None, unwrap_or}
+use Rattle.std.proofs.Common.{◌≡◌, ◌≢◌, ℕ, Bool, true, false, cond, not, ◌&&◌, List, [], ◌∷◌, ◌++◌, refl, sym, ap, subst, ◌∙◌, arith, inl, inr, ⊎_elim, ltb, eq-eqb, is_some, Some, None, unwrap_or}
 use Rattle.std.specs.List.{position}
 use Rattle.std.specs.FinMap.{get}
 use Rattle.files_model.specs.declared.attributes.FileId.{FileId}
 use Rattle.files_model.specs.declared.attributes.Sattr.{Sattr}
-use Rattle.files_model.specs.declared.attributes.Attr.{Attr}
 use Rattle.files_model.specs.declared.attributes.Kind.{Kind}
 use Rattle.files_model.specs.declared.attributes.Kind.TheVariants.{Regular, Directory, Link}
 use Rattle.files_model.specs.declared.credential.Cred.{Cred}
 use Rattle.files_model.specs.declared.call.Call.TheVariants as call
 use Rattle.files_model.specs.declared.permission.Want.TheVariants as want
-use Rattle.files_model.specs.declared.reply.Stat.{Stat}
 use Rattle.files_model.specs.declared.reply.Stat.TheVariants as stat
 use Rattle.files_model.specs.declared.reply.Reply.{Reply}
 use Rattle.files_model.specs.declared.reply.Reply.TheVariants as reply
@@ -19,14 +17,13 @@ use Rattle.files_model.specs.Attributes.{set_node}
 use Rattle.files_model.specs.FileRows.{setattr_row, setattr_refusal}
 use Rattle.files_model.specs.Files.{Node, Files, live, if_current}
 use Rattle.files_model.specs.NameRows.{create_row, create_at, create_tests, resize_at, has_other_type}
-use Rattle.files_model.specs.Names.{has_name, number_at, at_node, handle_of, name_tests, size_alone}
+use Rattle.files_model.specs.Names.{has_name, at_node, handle_of, name_tests, size_alone}
 use Rattle.files_model.specs.Permission.{allows, is_regular, is_directory}
 use Rattle.files_model.specs.Space.{size_limit}
 use Rattle.files_model.specs.Step.{step}
 use Rattle.files_model.specs.Torn.{Asked, Torn, TornWrites, TornTimes, TornRename, TornCreation, IsTornNode, after_calls, is_write, makes_node}
 use Rattle.stable.specs.Store.{Image}
 use Rattle.v7_map.specs.Frame.{frame}
-use Rattle.v7_map.specs.Tree.{tree}
 use Rattle.v7_map.specs.View.{view}
 use Rattle.v7_map.specs.Weak.{IsStrong}
 use Rattle.v7_map.specs.Plans.{IsTornImage, IsPlanOf}
@@ -40,10 +37,6 @@ use Rattle.name_plans.specs.Standing.{StandsAlready, with_handle}
 use Rattle.name_plans.proofs.CreatingAccepted.{first_none}
 
 -- ---- torn files of one call are those of another that leaves the same files
-
-is_setattr : Asked → Bool
-is_setattr (call.Setattr file set, cred) = true
-is_setattr _ = false
 
 head_is : (a b : Asked) → a ∷ [] ≡ b ∷ [] → a ≡ b
 head_is a b e = cc
@@ -60,12 +53,12 @@ module _ (files : Files) (file : FileId) (set : Sattr) (cred : Cred) (now : ℕ)
       (λ r. ⊎_elim
       (λ (t : TornTimes files ((call.Setattr file set, cred) ∷ []) now torn). inr (inr (inr (inl (times t)))))
       (λ r. ⊎_elim
-      (λ (t : TornRename files ((call.Setattr file set, cred) ∷ []) now torn). absurd (no_rename (call.Setattr file set, cred) t.asked t.from t.name t.to t.new_name (head_is (call.Setattr file set, cred) t.asked t.one) t.kind))
+      (λ (t : TornRename files ((call.Setattr file set, cred) ∷ []) now torn). absurd (no_rename t.asked t.from t.name t.to t.new_name (head_is (call.Setattr file set, cred) t.asked t.one) t.kind))
       (λ (t : TornCreation files ((call.Setattr file set, cred) ∷ []) now torn). absurd (no_creation t.asked (head_is (call.Setattr file set, cred) t.asked t.one) t.kind))
       r) r) r) r) h
     where
-      no_rename : (a x : Asked) (from : FileId) (name : List ℕ) (to : FileId) (new_name : List ℕ) → (call.Setattr file set, cred) ≡ x → x.0 ≡ call.Rename from name to new_name → ⊥
-      no_rename a x from name to new_name e k = cc
+      no_rename : (x : Asked) (from : FileId) (name : List ℕ) (to : FileId) (new_name : List ℕ) → (call.Setattr file set, cred) ≡ x → x.0 ≡ call.Rename from name to new_name → ⊥
+      no_rename x from name to new_name e k = cc
 
       no_creation : (x : Asked) → (call.Setattr file set, cred) ≡ x → makes_node x.0 ≡ true → ⊥
       no_creation x e k = cc
@@ -156,9 +149,6 @@ module _ (image : Image) (dir : FileId) (name : List ℕ) (wanted : Sattr) (cred
       ∙ ap (λ r. unless (view image) r (reply.Attr (attr_of i (set_node n (size_alone size) now)), with_node (view image) i (set_node n (size_alone size) now)))
       (refusal (view image).read_only writable n.kind kind)
     where
-      tests : Bool → Kind → Option Stat
-      tests ro kind = setattr_refusal ro (record (attr_of i n) { kind = kind }) (size_alone size) cred
-
       refusal : (ro : Bool) → ro ≡ false → (kind : Kind) → kind ≡ Regular
           → setattr_refusal ro (record (attr_of i n) { kind = kind }) (size_alone size) cred ≡ first_of ((not (allows cred (record (attr_of i n) { kind = kind }) want.Write), stat.Acces) ∷ (ltb size_limit size, stat.Fbig) ∷ [])
       refusal true e Regular k = absurd (cc)

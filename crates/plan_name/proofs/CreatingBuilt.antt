@@ -1,8 +1,8 @@
 -- The strokes of a creation into an empty slot, one after the other, are its plan.
-use Rattle.std.proofs.Common.{◌≡◌, ◌≢◌, ℕ, ◌+◌, ◌-◌, ◌/◌, ◌<◌, ◌≤◌, Bool, true, false, cond, List, [], ◌∷◌, ◌++◌, length, set, sym, ap, subst, ◌∙◌, arith, Some}
+use Rattle.std.proofs.Common.{◌≡◌, ◌≢◌, ℕ, ◌+◌, ◌/◌, ◌<◌, ◌≤◌, Bool, true, false, cond, List, [], ◌∷◌, ◌++◌, length, set, sym, ap, subst, ◌∙◌, arith, Some}
 use Rattle.std.proofs.lemmas.Bool.{ne_eqb}
 use Rattle.v7_layout.specs.declared.inode.Inode.{Inode}
-use Rattle.files_model.specs.Files.{Node, Slot}
+use Rattle.files_model.specs.Files.{Node}
 use Rattle.files_model.specs.Names.{place_for}
 use Rattle.files_model.specs.Torn.{Asked}
 use Rattle.stable.specs.Puts.{put_all, with_put}
@@ -10,7 +10,6 @@ use Rattle.stable.specs.Store.{Image}
 use Rattle.v7_map.specs.Image.{sector_at, is_inode, inode_at, inode_sector}
 use Rattle.v7_map.specs.Frame.{Body, frame}
 use Rattle.v7_map.specs.Tree.{tree, is_named}
-use Rattle.v7_map.specs.View.{view}
 use Rattle.v7_map.specs.Weak.{IsStrong}
 use Rattle.v7_map.specs.Plan.{PutsInode}
 use Rattle.v7_map.proofs.AnyFrame.{frame-IsFrame}
@@ -56,12 +55,6 @@ module _ (image : Image) (asked : Asked) (now i : ℕ) (n : Inode) (entry : Entr
       (l2 : plan2 ≡ plan1 ++ (entry.sector, b2) ∷ []) (slot : PutsSlot (sector_at (put_all plan1 im1) entry.sector) entry.index b2 (slot_from entry.slot))
       (l3 : plan3 ≡ with_put plan2 (inode_sector entry.directory, b3))
       (times : is_inode (put_all plan2 im2) entry.directory ≡ true → PutsInode (put_all plan2 im2) entry.directory b3 (timed_inode (inode_at (put_all plan2 im2) entry.directory) now)) where
-    p : ℕ
-    p = entry.directory
-
-    k : ℕ
-    k = place_for d.slots
-
     inside' : place_for d.slots < length d.slots
     inside' = subst (λ j. j < length d.slots) x.place inside
 

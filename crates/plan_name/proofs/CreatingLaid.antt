@@ -1,11 +1,10 @@
 -- The strokes of a creation at the end of its directory, one after the other, are its plan.
-use Rattle.std.proofs.Common.{◌≡◌, ◌≢◌, ℕ, ◌+◌, ◌-◌, ◌/◌, ◌^◌, ◌<◌, ◌≤◌, ◌==◌, Bool, true, false, cond, List, [], ◌∷◌, ◌++◌, length, get_or, set, sym, ap, subst, ◌∙◌, arith, ⊎_elim, Option, Some, None}
+use Rattle.std.proofs.Common.{◌≡◌, ◌≢◌, ℕ, ◌+◌, ◌/◌, ◌^◌, ◌<◌, ◌≤◌, ◌==◌, true, false, cond, List, [], ◌∷◌, ◌++◌, length, get_or, set, sym, ap, subst, ◌∙◌, arith, ⊎_elim, Option, Some, None}
 use Rattle.std.proofs.lemmas.Bool.{cases_eq, ne_eqb}
 use Rattle.std.specs.List.{AllByRecursion}
 use Rattle.v7_layout.specs.declared.inode.Inode.{Inode}
 use Rattle.files_model.specs.Answers.{zeros}
-use Rattle.files_model.specs.Files.{Node, Slot}
-use Rattle.files_model.specs.Names.{place_for}
+use Rattle.files_model.specs.Files.{Node}
 use Rattle.files_model.specs.Space.{size_limit}
 use Rattle.files_model.specs.Torn.{Asked}
 use Rattle.stable.specs.Puts.{put_all, with_put}
@@ -13,7 +12,6 @@ use Rattle.stable.specs.Store.{Image}
 use Rattle.v7_map.specs.Image.{sector_at, is_inode, inode_at, inode_sector, isize_of}
 use Rattle.v7_map.specs.Frame.{Place, Body, Single, frame}
 use Rattle.v7_map.specs.Tree.{tree, is_named}
-use Rattle.v7_map.specs.View.{view}
 use Rattle.v7_map.specs.Weak.{IsStrong}
 use Rattle.v7_map.specs.Plan.{PutsInode}
 use Rattle.v7_map.proofs.Data.{same_inode}
@@ -56,15 +54,6 @@ module _ (image : Image) (asked : Asked) (now i : ℕ) (n : Inode) (entry : Entr
     (l3 : plan3 ≡ plan2 ++ map_puts longer.map) (l4 : plan4 ≡ with_put plan3 (inode_sector entry.directory, b3))
     (last : is_inode (put_all plan3 im2) entry.directory ≡ true → (inode_at (put_all plan3 im2) entry.directory).size + 16 < 2 ^ 32
     → PutsInode (put_all plan3 im2) entry.directory b3 (longer_inode (inode_at (put_all plan3 im2) entry.directory) longer.blocks.direct longer.blocks.single now)) where
-  p : ℕ
-  p = entry.directory
-
-  q : ℕ
-  q = length d.slots / 32
-
-  maps : List (ℕ × List ℕ)
-  maps = map_puts longer.map
-
   first' : PutsInode image i b1 n
   first' = first (made-number image asked now i n entry name d m strong x)
 
@@ -143,9 +132,6 @@ module _ (image : Image) (asked : Asked) (now i : ℕ) (n : Inode) (entry : Entr
       (λ (z : (frame image).address entry.directory r ≡ 0). (lays_image.fresh r z nz).low)
       (λ (h : (frame image).address entry.directory r ≢ 0). subst (λ a. (frame image).isize ≤ a) (sym (lays_image.kept r h)) (strong.weak.data_block entry.directory r h).0)
       (cases_eq ((frame image).address entry.directory r) 0)
-
-  rest : List (ℕ × List ℕ)
-  rest = (target (Body (length d.slots / 32)), b2) ∷ map_puts longer.map
 
   rest_past : AllByRecursion (λ (r : ℕ × List ℕ). (frame image).isize ≤ r.0) ((target (Body (length d.slots / 32)), b2) ∷ map_puts longer.map)
   rest_past = (target_low (Body (length d.slots / 32)) lays_image.held, by_map map_image)

@@ -1,5 +1,5 @@
 -- Puts that a store can take.
-use Rattle.std.proofs.Common.{◌≡◌, ℕ, suc, zero, ◌+◌, ◌-◌, ◌<◌, ◌≤◌, Bool, true, false, cond, List, [], ◌∷◌, ◌++◌, length, set, Option, Some, None, IfSome, sym, ap, subst, ◌∙◌, arith, length-append}
+use Rattle.std.proofs.Common.{ℕ, suc, zero, ◌+◌, ◌-◌, ◌<◌, ◌≤◌, true, false, cond, List, [], ◌∷◌, ◌++◌, length, set, Option, Some, None, IfSome, arith}
 use Rattle.std.specs.List.{AllByRecursion}
 use Rattle.stable.specs.Puts.{with_put, ends_with}
 use Rattle.v7_map.proofs.Puts.{all_append}

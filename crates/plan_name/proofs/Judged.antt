@@ -1,5 +1,5 @@
 -- The judging of a new file is that of the step.
-use Rattle.std.proofs.Common.{◌≡◌, ◌≢◌, ℕ, ◌+◌, ◌-◌, ◌%◌, ◌<◌, ◌≤◌, Bool, true, false, cond, not, ◌&&◌, ◌||◌, List, [], ◌∷◌, ◌++◌, length, Option, Some, None, refl, sym, ap, subst, ◌∙◌, arith, ltb, unwrap_or}
+use Rattle.std.proofs.Common.{◌≡◌, ℕ, ◌+◌, ◌-◌, ◌<◌, ◌≤◌, Bool, true, false, cond, not, ◌&&◌, ◌||◌, List, [], ◌∷◌, length, Some, None, refl, sym, ap, ◌∙◌, arith, ltb, unwrap_or}
 use Rattle.std.proofs.lemmas.Bool.{le-ltb}
 use Rattle.std.specs.FinMap.{get}
 use Rattle.files_model.specs.declared.attributes.Attr.{Attr}
@@ -15,7 +15,7 @@ use Rattle.files_model.specs.Files.{Node, Files}
 use Rattle.files_model.specs.NameRows.{create_new, entry_tests, is_full_for, at_usable}
 use Rattle.files_model.specs.Names.{place_for, lowest_usable, with_entry, made_at, new_file}
 use Rattle.files_model.specs.Permission.{allows}
-use Rattle.files_model.specs.Space.{size_limit, node_usage, free}
+use Rattle.files_model.specs.Space.{size_limit, node_usage}
 use Rattle.index_sets.specs.Free.{IsLowestFrom, count_free}
 use Rattle.stable.specs.Store.{Image}
 use Rattle.v7_map.specs.View.{view}

@@ -1,8 +1,7 @@
 -- What a CREATE of a free name comes to, by what is judged of it.
-use Rattle.std.proofs.Common.{◌≡◌, ◌≢◌, ℕ, ◌+◌, ◌-◌, ◌*◌, ◌^◌, ◌<◌, ◌≤◌, Bool, true, false, cond, not, ◌&&◌, ◌||◌, List, [], ◌∷◌, length, set, refl, sym, ap, subst, ◌∙◌, arith, inl, ltb, Some, None, unwrap_or}
+use Rattle.std.proofs.Common.{◌≡◌, ℕ, ◌<◌, ◌≤◌, Bool, false, not, ◌||◌, List, [], ◌∷◌, length, set, refl, sym, ap, subst, ◌∙◌, arith, inl, ltb, Some, None, unwrap_or}
 use Rattle.std.specs.List.{position}
 use Rattle.std.specs.FinMap.{get}
-use Rattle.files_model.specs.declared.attributes.Attr.{Attr}
 use Rattle.files_model.specs.declared.attributes.FileId.{FileId}
 use Rattle.files_model.specs.declared.attributes.Sattr.{Sattr}
 use Rattle.files_model.specs.declared.call.Call.TheVariants.{Create}
@@ -13,16 +12,14 @@ use Rattle.files_model.specs.declared.reply.Reply.{Reply}
 use Rattle.files_model.specs.declared.reply.Reply.TheVariants as reply
 use Rattle.files_model.specs.Answers.{first_of, unless, at_live}
 use Rattle.files_model.specs.Files.{Node, Files}
-use Rattle.files_model.specs.NameRows.{create_row, create_at, create_new, create_tests, entry_tests}
+use Rattle.files_model.specs.NameRows.{create_row, create_at, create_new, create_tests}
 use Rattle.files_model.specs.Names.{has_name, place_for, new_file, may_change, with_entry}
 use Rattle.files_model.specs.Space.{size_limit}
 use Rattle.files_model.specs.Step.{step}
-use Rattle.files_model.specs.Torn.{Asked}
 use Rattle.stable.specs.Puts.{put_all}
 use Rattle.stable.specs.Store.{Image}
 use Rattle.v7_map.specs.Frame.{frame}
-use Rattle.v7_map.specs.Image.{inode_at, inode_sector, inodes_before}
-use Rattle.v7_map.specs.Plans.{IsPlanOf}
+use Rattle.v7_map.specs.Image.{inode_at, inodes_before}
 use Rattle.v7_map.specs.View.{view}
 use Rattle.v7_map.specs.Weak.{IsStrong}
 use Rattle.v7_sets.specs.Sets.{AreSetsOf}
@@ -34,7 +31,7 @@ use Rattle.name_plans.proofs.CreatingAccepted.{first_none, creation-step, usable
 use Rattle.name_plans.proofs.CreatingInPlace.{creation-making}
 use Rattle.plan_name.specs.Created.{IsFreeName, IsPlannedNew, CanBeNumber}
 use Rattle.plan_name.specs.Creating.{FitsIn, IsPlannedMaking, made_answer}
-use Rattle.plan_name.specs.Judging.{IsTold, MayBeMade}
+use Rattle.plan_name.specs.Judging.{MayBeMade}
 
 lt_of : (b : Bool) (x y : ℕ) → (ltb x y || b) ≡ false → y ≤ x
 lt_of b x y e = grind arith

@@ -2,7 +2,7 @@
 use Rattle.std.proofs.Common.{◌≡◌, ℕ, List, [], ◌∷◌, sym, ap, subst, ◌∙◌, Some}
 use Rattle.files_model.specs.declared.attributes.FileId.{FileId}
 use Rattle.files_model.specs.declared.attributes.Sattr.{Sattr}
-use Rattle.files_model.specs.declared.call.Call.TheVariants.{Create, Setattr}
+use Rattle.files_model.specs.declared.call.Call.TheVariants.{Setattr}
 use Rattle.files_model.specs.declared.credential.Cred.{Cred}
 use Rattle.files_model.specs.declared.reply.Reply.{Reply}
 use Rattle.files_model.specs.Files.{Node, Files}

@@ -1,5 +1,5 @@
 -- The lowest i-number that a new file may have is the lowest one in the set.
-use Rattle.std.proofs.Common.{◌≡◌, ◌≢◌, ℕ, zero, suc, ◌+◌, ◌-◌, ◌*◌, ◌^◌, ◌<◌, ◌≤◌, Bool, true, false, cond, not, ◌&&◌, ◌==◌, List, Option, Some, None, refl, sym, ap, subst, ◌∙◌, arith, ⊎_elim, ltb, unwrap_or}
+use Rattle.std.proofs.Common.{◌≡◌, ◌≢◌, ℕ, zero, suc, ◌+◌, ◌-◌, ◌<◌, ◌≤◌, Bool, true, false, cond, not, ◌&&◌, ◌==◌, List, Option, Some, None, refl, sym, ap, subst, ◌∙◌, arith, ⊎_elim, ltb, unwrap_or}
 use Rattle.std.proofs.lemmas.Bool.{cases_Bool, cases_eq}
 use Rattle.std.specs.List.{range_with_len, find}
 use Rattle.std.specs.Option.{is_none}
@@ -13,7 +13,7 @@ use Rattle.v7_map.specs.Image.{inode_at, is_inode, inodes_before}
 use Rattle.v7_map.specs.View.{view, node_at}
 use Rattle.v7_map.specs.Weak.{IsStrong}
 use Rattle.v7_map.proofs.Standing.{node-is}
-use Rattle.v7_sets.specs.Sets.{IsFreeNumber, AreSetsOf}
+use Rattle.v7_sets.specs.Sets.{AreSetsOf}
 use Rattle.v7_strokes.proofs.Views.{view-inodes, view-generation}
 use Rattle.plan_name.proofs.Past.{is_number}
 

@@ -1,5 +1,4 @@
-use Rattle.std.proofs.Common.{◌≡◌, ◌+◌, ◌<◌, ◌≤◌, ℕ, sym, ◌∙◌, arith, Some, None}
-use Rattle.index_sets.specs.Free.{IsLowestFrom}
+use Rattle.std.proofs.Common.{sym, ◌∙◌, arith}
 use Rattle.plan_name.proofs.Judged.{told-size, told-entry, told-refused, told-none, told-full, told-made}
 use Rattle.plan_name.proofs.judging.judge_new.Goals as goal
 

@@ -1,7 +1,6 @@
-use Rattle.std.proofs.Common.{◌≡◌, ◌<◌, ℕ, List, [], length, sym, ap, subst, ◌∙◌, refl}
+use Rattle.std.proofs.Common.{◌<◌, ℕ, List, [], length, sym, ap, subst, ◌∙◌, refl}
 use Rattle.files_model.specs.declared.call.Call.TheVariants.{Create}
 use Rattle.files_model.specs.declared.reply.Reply.{Reply}
-use Rattle.files_model.specs.declared.reply.Reply.TheVariants as reply
 use Rattle.stable.specs.Puts.{Reserved}
 use Rattle.stable.specs.Store.{Image}
 use Rattle.v7_map.specs.Frame.{frame}

@@ -1,11 +1,6 @@
-use Rattle.std.proofs.Common.{◌≡◌, ap, sym, subst, ◌∙◌}
-use Rattle.files_model.specs.declared.attributes.FileId.{FileId}
+use Rattle.std.proofs.Common.{subst}
 use Rattle.files_model.specs.declared.attributes.Sattr.{Sattr}
-use Rattle.files_model.specs.declared.reply.Reply.{Reply}
-use Rattle.files_model.specs.Names.{handle_of}
-use Rattle.name_plans.specs.Standing.{with_handle}
 use Rattle.stable.specs.Store.{Image}
-use Rattle.v7_map.specs.View.{view}
 use Rattle.plan_file.specs.Set.{IsPlannedSet}
 use Rattle.plan_name.proofs.StandingPlan.{standing-planned}
 use Rattle.plan_name.proofs.standing.plan_standing.Goals as goal
