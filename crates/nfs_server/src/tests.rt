@@ -6,6 +6,7 @@ mod crashes;
 mod damages;
 mod growths;
 mod hurts;
+mod names;
 mod outside;
 mod refusals;
 mod runs;
