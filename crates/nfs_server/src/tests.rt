@@ -9,6 +9,7 @@ mod hurts;
 mod outside;
 mod refusals;
 mod runs;
+mod several;
 mod stops;
 mod turns;
 mod volumes;
