@@ -99,7 +99,11 @@ fn serve_post<H: Host, S: Tended + Drop>(
 }
 
 // Stops the volume, since the host gave no post.
-fn refuse_post<H: Host, S: Tended + Drop>(host: &mut H, volume: Volume<S>, fault: HostFault) -> (u8, S)
+fn refuse_post<H: Host, S: Tended + Drop>(
+    host: &mut H,
+    volume: Volume<S>,
+    fault: HostFault,
+) -> (u8, S)
     requires { Rests S.Stable volume }
     ensures { RefusedPost H.Host.own H.Say S.Stable fault (is_hurt volume) host.old host.new (store_of volume) result.1 result.0 }
 {

@@ -1,5 +1,5 @@
 //! A run over one rig and one post in memory.
-ghost use Rattle.std.specs.Prelude.{IfSome, length};
+ghost use Rattle.std.specs.Prelude.{◌≡◌, ◌≤◌, IfSome, length};
 ghost use Rattle.std.specs.List.{AllByRecursion};
 ghost use Rattle.nfs_worker.specs.Volumes.{AreOpen};
 ghost use Rattle.volume.specs.Rests.{Rests};
@@ -31,26 +31,18 @@ fn volume_on(alloc: Global, rig: MemRig) -> Option<Volume<Presto<MemRig>>>
     }
 }
 
-/// The cells of the volume of a rig, and of that of another one if there is one, if they can be opened.
-pub fn cells_of(
-    alloc: Global,
-    rig: MemRig,
-    other: Option<MemRig>,
-) -> Option<Cells<Presto<MemRig>>>
+// The cells of these volumes.
+fn cells_on(alloc: Global, volumes: Vec<Volume<Presto<MemRig>>>) -> Option<Cells<Presto<MemRig>>>
+    requires some { 1 ≤ length volumes.items }
+    requires few { length volumes.items ≤ 4 }
+    requires rest { AllByRecursion (Rests ⟦<Presto<MemRig> as Stable>⟧) volumes.items }
     ensures rest { IfSome result (λ cells. AllByRecursion (Rests ⟦<Presto<MemRig> as Stable>⟧) cells.volumes.items) }
     ensures desk { IfSome result (λ cells. AreOpen (length cells.volumes.items) cells.desk) }
 {
-    let mut volumes = Vec::new(alloc);
-    if volumes.push(volume_on(alloc, rig)?).is_err() {
+    let Ok(cells) = open_cells(alloc, volumes) else {
         return None;
-    }
-    let Some(other) = other else {
-        return open_cells(alloc, volumes).ok();
     };
-    if volumes.push(volume_on(alloc, other)?).is_err() {
-        return None;
-    }
-    open_cells(alloc, volumes).ok()
+    Some(cells)
 }
 
 /// The cells of the volume of a rig, if it can be opened.
@@ -58,7 +50,24 @@ pub fn cells(alloc: Global, rig: MemRig) -> Option<Cells<Presto<MemRig>>>
     ensures rest { IfSome result (λ cells. AllByRecursion (Rests ⟦<Presto<MemRig> as Stable>⟧) cells.volumes.items) }
     ensures desk { IfSome result (λ cells. AreOpen (length cells.volumes.items) cells.desk) }
 {
-    cells_of(alloc, rig, None)
+    let volume = volume_on(alloc, rig)?;
+    let Ok(volumes) = Vec::from_array(alloc, [volume]) else {
+        return None;
+    };
+    cells_on(alloc, volumes)
+}
+
+/// The cells of the volumes of two rigs, if they can be opened.
+pub fn cells_of_two(alloc: Global, first: MemRig, second: MemRig) -> Option<Cells<Presto<MemRig>>>
+    ensures rest { IfSome result (λ cells. AllByRecursion (Rests ⟦<Presto<MemRig> as Stable>⟧) cells.volumes.items) }
+    ensures desk { IfSome result (λ cells. AreOpen (length cells.volumes.items) cells.desk) }
+{
+    let first = volume_on(alloc, first)?;
+    let second = volume_on(alloc, second)?;
+    let Ok(volumes) = Vec::from_array(alloc, [first, second]) else {
+        return None;
+    };
+    cells_on(alloc, volumes)
 }
 
 /// The rig of the last volume.

@@ -1,6 +1,6 @@
 //! Turns over two volumes.
 
-use crate::tests::outside::{are_sent, cells_of, datagram, last_rig, post};
+use crate::tests::outside::{are_sent, cells_of_two, datagram, last_rig, post};
 use crate::tests::turns::is_next;
 use crate::tests::volumes::{is_volume, rig};
 use crate::tests::wire::{Row, bytes_of};
@@ -16,7 +16,7 @@ fn a_call_on_one_volume_leaves_the_other(rt: HostRuntime) -> Result<(), Fail> {
     events.push(datagram(&write_with(17, 1)))?;
     let mut post = post(alloc, events)?;
     let mut pass = ServerPass::new(0, 2000);
-    let Some(mut cells) = cells_of(alloc, rig(alloc, FRESH)?, Some(rig(alloc, FRESH)?)) else {
+    let Some(mut cells) = cells_of_two(alloc, rig(alloc, FRESH)?, rig(alloc, FRESH)?) else {
         panic!(rt; "the volumes weren't opened");
     };
     assert!(rt; is_next(&mut cells, &mut post, &mut pass, Turn::Answered(1)));
@@ -71,12 +71,15 @@ fn each_open_volume_is_mounted_and_shown(rt: HostRuntime) -> Result<(), Fail> {
     }
     let mut post = post(alloc, events)?;
     let mut pass = ServerPass::new(0, 2000);
-    let Some(mut cells) = cells_of(alloc, rig(alloc, FRESH)?, Some(rig(alloc, FRESH)?)) else {
+    let Some(mut cells) = cells_of_two(alloc, rig(alloc, FRESH)?, rig(alloc, FRESH)?) else {
         panic!(rt; "the volumes weren't opened");
     };
-    for _ in 0..5u32 {
-        assert!(rt; is_next(&mut cells, &mut post, &mut pass, Turn::Answered(1)));
-    }
+    let answered = Turn::Answered(1);
+    assert!(rt; is_next(&mut cells, &mut post, &mut pass, answered));
+    assert!(rt; is_next(&mut cells, &mut post, &mut pass, answered));
+    assert!(rt; is_next(&mut cells, &mut post, &mut pass, answered));
+    assert!(rt; is_next(&mut cells, &mut post, &mut pass, answered));
+    assert!(rt; is_next(&mut cells, &mut post, &mut pass, answered));
     assert!(rt; are_sent(post.link.sent(), &replies));
     Ok(())
 }

@@ -35,21 +35,21 @@ returns g c =
     record {
       rest = one_as (Rests s) _ olds (λ volume is rest. let went = one_each _ 0 volume c.only.result olds news w.holds is c.only.ensures w.went in went.1.rest) c.requires.rest;
       ran = one_as (Rests s) _ olds (λ volume is rest. let went = one_each _ 0 volume c.only.result olds news w.holds is c.only.ensures w.went in record {
-            did = did;
-            back = c.work-ended.new.post;
-            holds = went.0;
-            rigs = gave.rigs;
-            left = gave.back.left;
-            returned = gave.back.back c.requires.out;
-            faults = gave.faults;
-            lines = gave.lines;
-            grows = went.1.grows;
-            began = refl;
-            works = works;
-            shared = (shared_alone 0 did went.0 went.1.shared works.mine, tt);
-            ends = subst (λ (n : ℕ). EndsBy n c.work-ended.result c.args.turns w.heard) single w.ends;
-            received = received;
-            answered = answered;
-            polled = went.1.polled;
-          }) c.requires.rest;
+        did = did;
+        back = c.work-ended.new.post;
+        holds = went.0;
+        rigs = gave.rigs;
+        left = gave.back.left;
+        returned = gave.back.back c.requires.out;
+        faults = gave.faults;
+        lines = gave.lines;
+        grows = went.1.grows;
+        began = refl;
+        works = works;
+        shared = (shared_alone 0 did went.0 went.1.shared works.mine, tt);
+        ends = subst (λ (n : ℕ). EndsBy n c.work-ended.result c.args.turns w.heard) single w.ends;
+        received = received;
+        answered = answered;
+        polled = went.1.polled;
+      }) c.requires.rest;
     }
