@@ -1,5 +1,5 @@
 -- What is said of a rig whose unit was opened, by how the volume was started and stopped.
-use Rattle.std.proofs.Common.{arith, ◌≡◌, ◌≢◌, ◌∙◌, ℕ, ◌≤◌, Bool, Option, Some, None, IsSome, refl, sym, subst}
+use Rattle.std.proofs.Common.{arith, ◌≡◌, ◌≢◌, ◌∙◌, ℕ, ◌≤◌, Bool, [], ◌∷◌, Option, Some, None, IsSome, refl, sym, subst}
 use Rattle.stable.specs.Counts.{Rose}
 use Rattle.stable.specs.Moments.{IsClocked}
 use Rattle.stable.specs.Store.{Image}
@@ -90,4 +90,4 @@ module _ {R : Type 0} (r : Ghosts R) (clocked : IsClocked r.tells r.contents r.m
     failed = λ failed. risen (opens.failed failed);
   }
   found_by (NoPost start fault stop) opens = found start stop opens
-  found_by (Ran start way did stop) opens = (found start stop opens.0, λ tells. subst (λ (i : Image). did.desk.root ≡ root_in i) (same tells) (opens.1 tells))
+  found_by (Ran start way did stop) opens = (found start stop opens.0, λ tells. subst (λ (i : Image). did.desk.roots ≡ root_in i ∷ []) (same tells) (opens.1 tells))

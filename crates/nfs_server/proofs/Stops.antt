@@ -97,7 +97,7 @@ module _ {V : Type 0} (s : Ghosts V) where
     opens_as root (NoUnit fault) weak named rooted runs = absurd runs
     opens_as root (NoVolume fault) weak named rooted runs = absurd runs
     opens_as root (NoPost start fault stop) weak named rooted runs = record { weak = weak; named = λ told. runs.0 ∙ named told; run = run_opened runs.1 }
-    opens_as root (Ran start way did stop) weak named rooted runs = (record { weak = weak; named = λ told. runs.0 ∙ named told; run = run_opened runs.1 }, λ told. ap (λ (d : Desk). d.root) runs.2 ∙ rooted told)
+    opens_as root (Ran start way did stop) weak named rooted runs = (record { weak = weak; named = λ told. runs.0 ∙ named told; run = run_opened runs.1 }, λ told. ap (λ (d : Desk). d.roots) runs.2 ∙ ap (λ r. r ∷ []) (rooted told))
 
 -- what holds of each pair, by what it follows from
 pub each_pair : {A : Type 0} {P Q : A → A → Type 0} → ((x y : A) → P x y → Q x y) → (xs : List A) (ys : List (ℕ × A)) → EachPair P xs ys → EachPair Q xs ys

@@ -1,5 +1,5 @@
 -- What a run says of the rig of a volume, of what disk and board stand for together (docs/DEVICES.md, "The unit").
-use Rattle.std.specs.Prelude.{◌≡◌, ◌≢◌, ◌≤◌, ◌+◌, ℕ, Bool, true, false, List, length}
+use Rattle.std.specs.Prelude.{◌≡◌, ◌≢◌, ◌≤◌, ◌+◌, ℕ, Bool, true, false, List, [], ◌∷◌, length}
 use Rattle.files_model.specs.History.{failures}
 use Rattle.stable.specs.Counts.{Rose, RoseBy}
 use Rattle.stable.specs.Store.{Image}
@@ -87,4 +87,4 @@ FoundAs r options (NoUnit fault) rig back = IsNotOpened r options rig back fault
 FoundAs r options (NoVolume fault) rig back = HasNone r options rig back fault
 FoundAs r options (NoPost start fault stop) rig back = IsFound r options rig back start stop
 -- MNT gave the root of the volume found
-FoundAs r options (Ran start way did stop) rig back = IsFound r options rig back start stop × (r.tells → did.desk.root ≡ root_in (overlay_of r rig))
+FoundAs r options (Ran start way did stop) rig back = IsFound r options rig back start stop × (r.tells → did.desk.roots ≡ root_in (overlay_of r rig) ∷ [])

@@ -27,7 +27,8 @@ use Rattle.mount1.specs.Rows.{Kept as Mounted}
 use Rattle.nfs_worker.specs.Desk.{new_desk}
 use Rattle.nfs_worker.specs.declared.desk.Desk.{Desk}
 use Rattle.nfs_worker.specs.Turns.{Did, EndsBy, datagrams}
-use Rattle.nfs_worker.specs.Worker.{Own, owned, worker_of, Works}
+use Rattle.nfs_worker.specs.Sharing.{OfWorkers}
+use Rattle.nfs_worker.specs.Worker.{worker_of, Works}
 use Rattle.nfs_worker.specs.declared.pass.Numbers.{Numbers}
 use Rattle.nfs_worker.specs.declared.turning.Ended.{Ended}
 use Rattle.nfs_server.specs.Course.{Course, Start, Stop, Usage, NoRig, NoUnit, NoVolume, NoPost, Ran, fails, state_after, closing_status, closing_lines, status_of, lines_of, dids_of, rigs_in}
@@ -62,15 +63,6 @@ Workers l volumes n (post ∷ posts) (back ∷ backs) (did ∷ dids) =
     (back.0 ≡ n) × ((did.desk.mounts ≡ no_mounts volumes) × Works volumes n did.desk did.then (worker_of l post.link) (worker_of l back.1.link) did.heard did.own did.replies) × Workers l volumes (n + 1) posts backs dids
 Workers l volumes n _ _ _ = ⊥
 
--- the events of volume n and of those after it
-abbrev pub owned_from : ℕ → List (List Hold) → List Own
-owned_from n [] = []
-owned_from n (holds ∷ more) = owned n (history holds) ++ owned_from (n + 1) more
-
--- Each event of a history is one worker's, once, and in that worker's order. (With one worker its own events are those of the volumes, in order.)
-abbrev pub OfWorkers : List (List Hold) → List Did → Type 0
-OfWorkers volumes dids = owned_from 0 volumes ≡ flat_map (λ (did : Did). did.own) dids
-
 -- how often a clock's second changed between two posts, but for the first change
 abbrev pub changes_in : {L C P : Type 0} → ClockGhosts C → Post L C P → Post L C P → ℕ
 changes_in c post post' = c.changes post'.clock - c.changes post.clock - 1
@@ -89,11 +81,11 @@ Understood asked (NoRig word fault) = (given : Asked) × (asked ≡ Some given) 
 Understood asked (NoUnit fault) = IsSome asked
 Understood asked (NoVolume fault) = IsSome asked
 Understood asked (NoPost start fault stop) = IsSome asked
-Understood asked (Ran start way did stop) = IsSome asked × EndsBy way (options_of asked).turns did.heard
+Understood asked (Ran start way did stop) = IsSome asked × EndsBy 1 way (options_of asked).turns did.heard
 
 -- what the end of the worker says of the events that it took
 abbrev pub EndsAs : ℕ → Course → Type 0
-EndsAs turns (Ran start way did stop) = EndsBy way turns did.heard
+EndsAs turns (Ran start way did stop) = EndsBy 1 way turns did.heard
 EndsAs turns Usage = Unit {0}
 EndsAs turns (NoRig word fault) = Unit {0}
 EndsAs turns (NoUnit fault) = Unit {0}
@@ -101,6 +93,11 @@ EndsAs turns (NoVolume fault) = Unit {0}
 EndsAs turns (NoPost start fault stop) = Unit {0}
 
 -- ---- a run over a store
+
+-- there is one item, and this holds of it
+abbrev pub OfOne : {A : Type 0} → (A → Type 0) → List A → Type 0
+OfOne P (x ∷ []) = P x
+OfOne P _ = ⊥
 
 -- The worker ran over its post, and the post came back. Nothing was said.
 pub record RanPost {S R L C P V : Type 0} (h : Ghosts S R L C P) (say : SayGhosts S) (l : LinkGhosts L) (c : ClockGhosts C) (s : StoreGhosts V) (old new : S) (store store' : V) (desk : Desk) (post : Post L C P) (turns : ℕ) (way : Ended) (numbers : Numbers) : Type 0 where
@@ -115,8 +112,8 @@ pub record RanPost {S R L C P V : Type 0} (h : Ghosts S R L C P) (say : SayGhost
   pub grows : Grew s store store' holds
   pub began : did.desk ≡ desk
   pub works : Works 1 0 did.desk did.then (worker_of l post.link) (worker_of l back.link) did.heard did.own did.replies
-  pub shared : owned 0 (history holds) ≡ did.own
-  pub ends : EndsBy way turns did.heard
+  pub shared : OfWorkers (holds ∷ []) (did ∷ [])
+  pub ends : EndsBy 1 way turns did.heard
   pub received : numbers.received ≡ datagrams did.heard
   pub answered : numbers.answered ≡ length did.replies
   pub polled : RoseBy (changes_in c post back) (s.snapshot_of store).polls (s.snapshot_of store').polls
@@ -135,8 +132,8 @@ pub record ServedPost {S R L C P V : Type 0} (h : Ghosts S R L C P) (say : SayGh
   pub grows : Grew s store store' holds
   pub began : did.desk ≡ desk
   pub works : Works 1 0 did.desk did.then (worker_of l post.link) (worker_of l back.link) did.heard did.own did.replies
-  pub shared : owned 0 (history holds) ≡ did.own
-  pub ends : EndsBy way turns did.heard
+  pub shared : OfWorkers (holds ∷ []) (did ∷ [])
+  pub ends : EndsBy 1 way turns did.heard
   pub polled : RoseBy (changes_in c post back) (s.snapshot_of store).polls (s.snapshot_of store').polls
   pub stopped : StopsAs s was store store' stop
   pub status : result ≡ closing_status way (fails stop)
@@ -161,7 +158,7 @@ pub record IsRun {V : Type 0} (s : StoreGhosts V) (down was : Bool) (recovery : 
 -- a volume of that name and root was started and stopped so; MNT gives that root, and STATUS counts the puts from then on
 abbrev pub RunsAs : {V : Type 0} → StoreGhosts V → Bool → Bool → Recovery → V → V → List ℕ → FileId → Course → Type 0
 RunsAs s down was recovery store store' name root (NoPost start fault stop) = (start.name ≡ name) × IsRun s down was recovery store store' start stop
-RunsAs s down was recovery store store' name root (Ran start way did stop) = (start.name ≡ name) × IsRun s down was recovery store store' start stop × (did.desk ≡ new_desk root (s.snapshot_of store).puts)
+RunsAs s down was recovery store store' name root (Ran start way did stop) = (start.name ≡ name) × IsRun s down was recovery store store' start stop × (did.desk ≡ new_desk (root ∷ []) ((s.snapshot_of store).puts ∷ []))
 RunsAs s down was recovery store store' name root Usage = ⊥
 RunsAs s down was recovery store store' name root (NoRig word fault) = ⊥
 RunsAs s down was recovery store store' name root (NoUnit fault) = ⊥
@@ -207,7 +204,7 @@ pub record IsServedAs {V : Type 0} (s : StoreGhosts V) (down : Bool) (recovery :
 abbrev pub OpensAs : {V : Type 0} → StoreGhosts V → Bool → Recovery → V → V → Course → Type 0
 OpensAs s down recovery store store' (NoVolume fault) = IsRefusedAs s store store' fault
 OpensAs s down recovery store store' (NoPost start fault stop) = IsServedAs s down recovery store store' start stop
-OpensAs s down recovery store store' (Ran start way did stop) = IsServedAs s down recovery store store' start stop × (s.tells → did.desk.root ≡ root_in (s.image store))
+OpensAs s down recovery store store' (Ran start way did stop) = IsServedAs s down recovery store store' start stop × (s.tells → did.desk.roots ≡ root_in (s.image store) ∷ [])
 OpensAs s down recovery store store' Usage = ⊥
 OpensAs s down recovery store store' (NoRig word fault) = ⊥
 OpensAs s down recovery store store' (NoUnit fault) = ⊥

@@ -1,11 +1,13 @@
 //! A run of the server, from its words to its status.
-ghost use Rattle.std.specs.Prelude.{◌≡◌, ◌<◌, ◌≤◌, ◌↔◌, None, map, string_bytes};
+ghost use Rattle.std.specs.Prelude.{◌≡◌, ◌<◌, ◌≤◌, ◌↔◌, ◌∷◌, [], None, length, map, string_bytes, IfOk, IfErr};
 ghost use Rattle.rig.specs.Hosts.{SameLoans};
 ghost use Rattle.volume.specs.Mounted.{store_of, name_of, root_of, is_hurt};
 ghost use Rattle.volume.specs.Rests.{Rests};
+ghost use Rattle.nfs_worker.specs.Desk.{new_desk};
 ghost use Rattle.nfs_worker.specs.Resting.{StaysAtRest};
+ghost use Rattle.nfs_worker.specs.Volumes.{AreOpen, puts_of};
 ghost use Rattle.nfs_server.specs.Asking.{options_read};
-ghost use Rattle.nfs_server.specs.Run.{RanPost, ServedPost, ServedOpen, ServedVolume, ServedRig, Outcome, RefusedPost};
+ghost use Rattle.nfs_server.specs.Run.{OfOne, RanPost, ServedPost, ServedOpen, ServedVolume, ServedRig, Outcome, RefusedPost};
 ghost use Rattle.nfs_server.specs.Words.{asked_by};
 
 use crate::starting::{Recovery, start, stop};
@@ -24,30 +26,59 @@ use volume::Volume;
 /// The port of NFS (RFC 1094 appendix).
 const PORT: u16 = 2049;
 
-// Runs the worker over its post, and gives the post back.
-fn run_worker<H: Host, S: Tended>(
+// The one volume of a list.
+fn only<S: Tended + Drop>(volumes: Vec<Volume<S>>) -> Volume<S>
+    requires { length volumes.items ≡ 1 }
+    ensures { volumes.items ≡ result ∷ [] }
+{
+    let mut volumes = volumes;
+    match volumes.pop() {
+        Some(volume) => volume,
+        None => unreachable!(),
+    }
+}
+
+// The cells of one volume, which comes back where there is no memory.
+fn cells_of<S: Tended + Drop>(alloc: Global, volume: Volume<S>) -> Result<Cells<S>, Volume<S>>
+    ensures volume { IfOk result (λ cells. cells.volumes.items ≡ volume ∷ []) }
+    ensures desk { IfOk result (λ cells. cells.desk ≡ new_desk (root_of volume ∷ []) (puts_of S.Stable volume ∷ [])) }
+    ensures back { IfErr result (λ back. back ≡ volume) }
+{
+    let mut volumes = Vec::new(alloc);
+    if let Err(failed) = volumes.push(volume) {
+        return Err(failed.value);
+    }
+    match open_cells(alloc, volumes) {
+        Ok(cells) => Ok(cells),
+        Err(volumes) => Err(only(volumes)),
+    }
+}
+
+// Runs the worker over the cells of one volume and its post, and gives the post and the volume back.
+fn run_worker<H: Host, S: Tended + Drop>(
     host: &mut H,
-    cells: &mut Cells<S>,
+    cells: Cells<S>,
     post: Post<H::L, H::C, H::P>,
     second: u32,
     turns: u64,
-) -> (Ended, Numbers)
+) -> (Ended, Numbers, Volume<S>)
     requires out { 0 < H.posts_out host.old }
     requires few { turns ≤ 1000000000 }
-    requires rest { Rests S.Stable cells.old.volume }
-    requires one { cells.old.desk.mounts.volumes ≡ 1 }
-    ensures rest { StaysAtRest S.Stable cells.old.volume cells.new.volume }
-    ensures ran { RanPost H.Host.own H.Say H.L.Link H.C.Clock S.Stable host.old host.new (store_of cells.old.volume) (store_of cells.new.volume) cells.old.desk post turns result.0 result.1 }
+    requires rest { OfOne (Rests S.Stable) cells.volumes.items }
+    requires desk { AreOpen 1 cells.desk }
+    ensures rest { OfOne (λ volume. StaysAtRest S.Stable volume result.2) cells.volumes.items }
+    ensures ran { OfOne (λ volume. RanPost H.Host.own H.Say H.L.Link H.C.Clock S.Stable host.old host.new (store_of volume) (store_of result.2) cells.desk post turns result.0 result.1) cells.volumes.items }
 {
+    let mut cells = cells;
     let mut post = post;
     let mut pass = ServerPass::new(0, second);
-    let ended = work(cells, &mut post, &mut pass, turns);
+    let ended = work(&mut cells, &mut post, &mut pass, turns);
     host.give_back_post(0, post);
-    (ended, pass.numbers)
+    (ended, pass.numbers, only(cells.volumes))
 }
 
 // Runs the worker, stops the volume, and says the closing lines.
-fn serve_post<H: Host, S: Tended>(
+fn serve_post<H: Host, S: Tended + Drop>(
     host: &mut H,
     cells: Cells<S>,
     post: Post<H::L, H::C, H::P>,
@@ -56,21 +87,23 @@ fn serve_post<H: Host, S: Tended>(
 ) -> (u8, S)
     requires out { 0 < H.posts_out host.old }
     requires few { turns ≤ 1000000000 }
-    requires rest { Rests S.Stable cells.volume }
-    requires one { cells.desk.mounts.volumes ≡ 1 }
-    ensures served { ServedPost H.Host.own H.Say H.L.Link H.C.Clock S.Stable turns (is_hurt cells.volume) host.old host.new (store_of cells.volume) result.1 cells.desk post result.0 }
+    requires rest { OfOne (Rests S.Stable) cells.volumes.items }
+    requires desk { AreOpen 1 cells.desk }
+    ensures served { OfOne (λ volume. ServedPost H.Host.own H.Say H.L.Link H.C.Clock S.Stable turns (is_hurt volume) host.old host.new (store_of volume) result.1 cells.desk post result.0) cells.volumes.items }
 {
-    let mut cells = cells;
-    let (ended, numbers) = run_worker(host, &mut cells, post, second, turns);
+    let (ended, numbers, volume) = run_worker(host, cells, post, second, turns);
     let now = host.now();
-    let Cells { volume, .. } = cells;
     let (store, unwritten) = stop(volume, now);
     let status = close(host, store.snapshot(), unwritten, ended, numbers);
     (status, store)
 }
 
 // Stops the volume, since the host gave no post.
-fn refuse_post<H: Host, S: Tended>(host: &mut H, volume: Volume<S>, fault: HostFault) -> (u8, S)
+fn refuse_post<H: Host, S: Tended + Drop>(
+    host: &mut H,
+    volume: Volume<S>,
+    fault: HostFault,
+) -> (u8, S)
     requires { Rests S.Stable volume }
     ensures { RefusedPost H.Host.own H.Say S.Stable fault (is_hurt volume) host.old host.new (store_of volume) result.1 result.0 }
 {
@@ -81,7 +114,7 @@ fn refuse_post<H: Host, S: Tended>(host: &mut H, volume: Volume<S>, fault: HostF
 }
 
 // Starts an open volume, and runs a worker over it; the second is that of the opening.
-fn serve_open<H: Host, S: Tended>(
+fn serve_open<H: Host, S: Tended + Drop>(
     alloc: Global,
     host: &mut H,
     volume: Volume<S>,
@@ -96,18 +129,18 @@ fn serve_open<H: Host, S: Tended>(
     let mut volume = volume;
     start(&mut volume, options.down);
     tell_start(host, &volume.name(), volume.snapshot().state, recovery);
-    let cells = match open_cells(alloc, volume) {
+    let cells = match cells_of(alloc, volume) {
         Ok(cells) => cells,
         Err(volume) => return refuse_post(host, volume, HostFault::NoMemory),
     };
     match host.post(PORT, 0) {
-        Err(fault) => refuse_post(host, cells.volume, fault),
+        Err(fault) => refuse_post(host, only(cells.volumes), fault),
         Ok(post) => serve_post(host, cells, post, second, options.turns),
     }
 }
 
 // Opens the volume on a store, mends what there is to mend, and runs a worker over it.
-fn serve_volume<H: Host, S: Tended>(
+fn serve_volume<H: Host, S: Tended + Drop>(
     alloc: Global,
     host: &mut H,
     store: S,

@@ -10,6 +10,7 @@ mod names;
 mod outside;
 mod refusals;
 mod runs;
+mod several;
 mod stops;
 mod turns;
 mod volumes;

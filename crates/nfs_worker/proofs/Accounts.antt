@@ -209,3 +209,16 @@ module _ {S : Type 0} (s : Ghosts S) (clocked : IsClocked s.tells s.image s.mome
   -- and after it
   pub grew_after : {a b c : S} (holds : List Hold) → Grew s a b holds → Grew s b c [] → Grew s a c holds
   grew_after {a} {c = c} holds grows after = subst (λ (hs : List Hold). Grew s a c hs) (append-nil holds) (grew_both holds [] grows after)
+
+-- What turns take of the account of a volume: nothing happened, no sector has changed, and one run of holds and then another.
+pub record IsAccount {S : Type 0} (keeps : S → S → Type 0) (grew : S → S → List Hold → Type 0) : Type 0 where
+  pub none : (store : S) → grew store store []
+  pub idle : (old new : S) → keeps old new → grew old new []
+  pub both : (a b c : S) (xs ys : List Hold) → grew a b xs → grew b c ys → grew a c (xs ++ ys)
+
+pub is_account : {S : Type 0} (s : Ghosts S) → IsClocked s.tells s.image s.moment s.left_since → IsAccount (KeepsImage s) (Grew s)
+is_account s clocked = record {
+  none = grew_none s clocked;
+  idle = λ old new keeps. grew_idle s clocked keeps;
+  both = λ a b c xs ys p q. grew_both s clocked xs ys p q;
+}

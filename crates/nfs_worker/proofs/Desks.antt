@@ -1,6 +1,8 @@
 -- What is answered outside any history, over one run after another.
-use Rattle.std.proofs.Common.{◌≡◌, ℕ, List, [], ◌∷◌, ◌++◌, None, ap, ◌∙◌, sym, refl, subst}
+use Rattle.std.proofs.Common.{◌≡◌, ◌≤◌, ℕ, List, [], ◌∷◌, ◌++◌, length, map, None, ap, ◌∙◌, sym, refl, subst}
+use Rattle.std.proofs.lemmas.List.{length-map}
 use Rattle.files_model.specs.declared.address.Address.{Address}
+use Rattle.files_model.specs.declared.attributes.FileId.{FileId}
 use Rattle.stable.specs.declared.snapshot.Snapshot.{Snapshot}
 use Rattle.rig.specs.Links.{Heard}
 use Rattle.rig.specs.Links.Heard.{Datagram, Idle, Closed, Failed}
@@ -8,8 +10,9 @@ use Rattle.rig.specs.Offers.{LeavesOut}
 use Rattle.datagrams.specs.declared.datagram.Datagram.{Datagram as Meaning}
 use Rattle.datagrams.specs.declared.datagram.Datagram.TheVariants.{NoMeaning, Outside, Asks, Mount, Command, Status, Halt}
 use Rattle.datagrams.specs.Meaning.{meaning}
-use Rattle.nfs_worker.specs.Desk.{Change, Tells, TellsTo, Answered}
+use Rattle.nfs_worker.specs.Desk.{new_desk, Change, Tells, TellsTo, Answered}
 use Rattle.nfs_worker.specs.Desk.Answered.{silent, passed, told}
+use Rattle.nfs_worker.specs.Volumes.{AreOpen}
 use Rattle.nfs_worker.specs.Turns.{DoesBy, Does, Obeys}
 use Rattle.nfs_worker.specs.Worker.{request_of}
 use Rattle.nfs_worker.specs.declared.desk.Desk.{Desk}
@@ -31,27 +34,33 @@ answered_both volumes a b c [] ys (o ∷ os) ps p q = elim p [ ]
 answered_both volumes a b c (x ∷ xs) ys os ps (passed v d e one heard answers p) q = passed volumes a c x (xs ++ ys) (os ++ ps) (answered_both volumes a b c xs ys os ps p q)
 answered_both volumes a b c (x ∷ xs) ys (o ∷ os) ps (told v d mid e one heard answer answers t p) q = told volumes a mid c x (xs ++ ys) o (os ++ ps) t (answered_both volumes mid b c xs ys os ps p q)
 
--- ---- as many volumes are open as before
+-- ---- the same volumes are open as before
 
-tells_volumes : (desk then : Desk) (means : Meaning) (change : Change) (reply : List ℕ) → Tells desk means change reply then → then.mounts.volumes ≡ desk.mounts.volumes
-tells_volumes desk then NoMeaning change reply t = absurd t
-tells_volumes desk then (Asks xid volume cred call) change reply t = absurd t
-tells_volumes desk then (Outside answer) change reply t = ap (λ (d : Desk). d.mounts.volumes) t.1
-tells_volumes desk then (Mount rpc) change reply t = ap (λ (d : Desk). d.mounts.volumes) t.1
-tells_volumes desk then (Command xid volume asked) change reply t = ap (λ (d : Desk). d.mounts.volumes) t.1
-tells_volumes desk then (Status xid volume) change reply t = ap (λ (d : Desk). d.mounts.volumes) t.1
-tells_volumes desk then (Halt xid) change reply t = ap (λ (d : Desk). d.mounts.volumes) t.1
+-- a new desk is that of its volumes
+pub new_open : {A : Type 0} (root : A → FileId) (puts : A → ℕ) (volumes : List A) (desk : Desk) → 1 ≤ length volumes → length volumes ≤ 4 → desk ≡ new_desk (map root volumes) (map puts volumes) → AreOpen (length volumes) desk
+new_open root puts volumes desk some few is =
+    subst (AreOpen (length volumes)) (sym is) (record { some = some; few = few; mounts = length-map volumes root; roots = length-map volumes root; puts = length-map volumes puts })
 
-told_volumes : (volumes : ℕ) (desk then : Desk) (one : Heard) (answer : Address × List ℕ) → TellsTo volumes desk one answer then → then.mounts.volumes ≡ desk.mounts.volumes
-told_volumes volumes desk then (Datagram from bytes) answer t = tells_volumes desk then (meaning bytes volumes) t.0 answer.1 t.2
-told_volumes volumes desk then Idle answer t = absurd t
-told_volumes volumes desk then Closed answer t = absurd t
-told_volumes volumes desk then Failed answer t = absurd t
+tells_open : (volumes : ℕ) (desk then : Desk) (means : Meaning) (change : Change) (reply : List ℕ) → Tells desk means change reply then → AreOpen volumes desk → AreOpen volumes then
+tells_open volumes desk then NoMeaning change reply t are = absurd t
+tells_open volumes desk then (Asks xid volume cred call) change reply t are = absurd t
+tells_open volumes desk then (Outside answer) change reply t are = subst (λ (d : Desk). AreOpen volumes d) (sym t.1) are
+tells_open volumes desk then (Mount rpc) change reply t are =
+    subst (λ (d : Desk). AreOpen volumes d) (sym t.1) (record { some = are.some; few = are.few; mounts = are.mounts; roots = are.roots; puts = are.puts })
+tells_open volumes desk then (Command xid volume asked) change reply t are = subst (λ (d : Desk). AreOpen volumes d) (sym t.1) are
+tells_open volumes desk then (Status xid volume) change reply t are = subst (λ (d : Desk). AreOpen volumes d) (sym t.1) are
+tells_open volumes desk then (Halt xid) change reply t are = subst (λ (d : Desk). AreOpen volumes d) (sym t.1) are
 
-pub answered_volumes : (volumes : ℕ) (desk then : Desk) (heard : List Heard) (answers : List (Address × List ℕ)) → Answered volumes desk heard answers then → then.mounts.volumes ≡ desk.mounts.volumes
-answered_volumes volumes desk then heard answers (silent v d e is) = ap (λ (d : Desk). d.mounts.volumes) is
-answered_volumes volumes desk then (x ∷ xs) answers (passed v d e one heard outs p) = answered_volumes volumes desk then xs answers p
-answered_volumes volumes desk then (x ∷ xs) (o ∷ os) (told v d mid e one heard answer outs t p) = answered_volumes volumes mid then xs os p ∙ told_volumes volumes desk mid x o t
+told_open : (among volumes : ℕ) (desk then : Desk) (one : Heard) (answer : Address × List ℕ) → TellsTo among desk one answer then → AreOpen volumes desk → AreOpen volumes then
+told_open among volumes desk then (Datagram from bytes) answer t are = tells_open volumes desk then (meaning bytes among) t.0 answer.1 t.2 are
+told_open among volumes desk then Idle answer t are = absurd t
+told_open among volumes desk then Closed answer t are = absurd t
+told_open among volumes desk then Failed answer t are = absurd t
+
+pub answered_open : (among volumes : ℕ) (desk then : Desk) (heard : List Heard) (answers : List (Address × List ℕ)) → Answered among desk heard answers then → AreOpen volumes desk → AreOpen volumes then
+answered_open among volumes desk then heard answers (silent v d e is) are = subst (λ (d : Desk). AreOpen volumes d) (sym is) are
+answered_open among volumes desk then (x ∷ xs) answers (passed v d e one heard outs p) are = answered_open among volumes desk then xs answers p are
+answered_open among volumes desk then (x ∷ xs) (o ∷ os) (told v d mid e one heard answer outs t p) are = answered_open among volumes mid then xs os p (told_open among volumes desk mid x o t are)
 
 -- ---- one datagram
 

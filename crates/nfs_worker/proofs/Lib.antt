@@ -1,11 +1,13 @@
 pub mod Accounts
-pub mod Reactions
 pub mod Counts
 pub mod Desks
-pub mod Firsts
 pub mod Lists
 pub mod OneHold
+pub mod Opens
+pub mod Places
+pub mod Reactions
 pub mod Resting
+pub mod Sharing
 pub mod Tendings
 pub mod Turns
 pub mod Workers

@@ -25,38 +25,37 @@ use Rattle.nfs_worker.specs.Served.{IsServed}
 use Rattle.nfs_worker.proofs.Accounts.{grew_hold, grew_same}
 
 -- the bytes of a reply fit the room of its call
-pub reply_fits : (xid : ℕ) (c : Call) (r : Reply) → has_row c ≡ true → HasForm c r → length (bytes_of xid r 0) ≤ longest_of c
-reply_fits xid (call.Getattr file) (reply.Refused status) row form = let fits = short_fits xid (reply.Refused status) 0 tt in omega (arith, fits)
-reply_fits xid (call.Getattr file) (reply.Attr attr) row form = let fits = short_fits xid (reply.Attr attr) 0 tt in omega (arith, fits)
-reply_fits xid (call.Getattr file) _ row form = absurd form
-reply_fits xid (call.Setattr file set) (reply.Refused status) row form = let fits = short_fits xid (reply.Refused status) 0 tt in omega (arith, fits)
-reply_fits xid (call.Setattr file set) (reply.Attr attr) row form = let fits = short_fits xid (reply.Attr attr) 0 tt in omega (arith, fits)
-reply_fits xid (call.Setattr file set) _ row form = absurd form
-reply_fits xid (call.Read file offset count) (reply.Refused status) row form = let fits = short_fits xid (reply.Refused status) 0 tt in omega (arith, fits)
-reply_fits xid (call.Read file offset count) (reply.Data attr bytes) row form = data_fits xid attr bytes 0 form
-reply_fits xid (call.Read file offset count) _ row form = absurd form
-reply_fits xid (call.Write file offset bytes) (reply.Refused status) row form = short_fits xid (reply.Refused status) 0 tt
-reply_fits xid (call.Write file offset bytes) (reply.Attr attr) row form = short_fits xid (reply.Attr attr) 0 tt
-reply_fits xid (call.Write file offset bytes) _ row form = absurd form
-reply_fits xid (call.Lookup dir name) (reply.Refused status) row form = answer_fits xid (call.Lookup dir name) (reply.Refused status) 0 tt
-reply_fits xid (call.Lookup dir name) (reply.Handle file attr) row form = answer_fits xid (call.Lookup dir name) (reply.Handle file attr) 0 tt
-reply_fits xid (call.Lookup dir name) _ row form = absurd form
-reply_fits xid (call.Statfs file) (reply.Refused status) row form = answer_fits xid (call.Statfs file) (reply.Refused status) 0 tt
-reply_fits xid (call.Statfs file) (reply.Space blocks free) row form = answer_fits xid (call.Statfs file) (reply.Space blocks free) 0 tt
-reply_fits xid (call.Statfs file) _ row form = absurd form
-reply_fits xid _ r row form = absurd (cc)
+pub reply_fits : (xid : ℕ) (c : Call) (r : Reply) (volume : ℕ) → has_row c ≡ true → HasForm c r → length (bytes_of xid r volume) ≤ longest_of c
+reply_fits xid (call.Getattr file) (reply.Refused status) volume row form = let fits = short_fits xid (reply.Refused status) volume tt in omega (arith, fits)
+reply_fits xid (call.Getattr file) (reply.Attr attr) volume row form = let fits = short_fits xid (reply.Attr attr) volume tt in omega (arith, fits)
+reply_fits xid (call.Getattr file) _ volume row form = absurd form
+reply_fits xid (call.Setattr file set) (reply.Refused status) volume row form = let fits = short_fits xid (reply.Refused status) volume tt in omega (arith, fits)
+reply_fits xid (call.Setattr file set) (reply.Attr attr) volume row form = let fits = short_fits xid (reply.Attr attr) volume tt in omega (arith, fits)
+reply_fits xid (call.Setattr file set) _ volume row form = absurd form
+reply_fits xid (call.Read file offset count) (reply.Refused status) volume row form = let fits = short_fits xid (reply.Refused status) volume tt in omega (arith, fits)
+reply_fits xid (call.Read file offset count) (reply.Data attr bytes) volume row form = data_fits xid attr bytes volume form
+reply_fits xid (call.Read file offset count) _ volume row form = absurd form
+reply_fits xid (call.Write file offset bytes) (reply.Refused status) volume row form = short_fits xid (reply.Refused status) volume tt
+reply_fits xid (call.Write file offset bytes) (reply.Attr attr) volume row form = short_fits xid (reply.Attr attr) volume tt
+reply_fits xid (call.Write file offset bytes) _ volume row form = absurd form
+reply_fits xid (call.Lookup dir name) (reply.Refused status) volume row form = answer_fits xid (call.Lookup dir name) (reply.Refused status) volume tt
+reply_fits xid (call.Lookup dir name) (reply.Handle file attr) volume row form = answer_fits xid (call.Lookup dir name) (reply.Handle file attr) volume tt
+reply_fits xid (call.Lookup dir name) _ volume row form = absurd form
+reply_fits xid (call.Statfs file) (reply.Refused status) volume row form = answer_fits xid (call.Statfs file) (reply.Refused status) volume tt
+reply_fits xid (call.Statfs file) (reply.Space blocks free) volume row form = answer_fits xid (call.Statfs file) (reply.Space blocks free) volume tt
+reply_fits xid (call.Statfs file) _ volume row form = absurd form
+reply_fits xid _ r volume row form = absurd (cc)
 
-pub refusal_fits : (xid : ℕ) (c : Call) → has_row c ≡ true → length (bytes_of xid (reply.Refused stat.Io) 0) ≤ longest_of c
-refusal_fits xid c row = reply_fits xid c (reply.Refused stat.Io) row tt
+pub refusal_fits : (xid : ℕ) (c : Call) (volume : ℕ) → has_row c ≡ true → length (bytes_of xid (reply.Refused stat.Io) volume) ≤ longest_of c
+refusal_fits xid c volume row = reply_fits xid c (reply.Refused stat.Io) volume row tt
 
 module _ {S : Type 0} (s : Ghosts S) (clocked : IsClocked s.tells s.image s.moment s.left_since)
-    (old new : S) (was is : Bool) (number now : ℕ) (item : Item) (row : has_row item.call ≡ true) (weak : s.tells → IsWeak (frame (s.image new)))
+    (volume : ℕ) (old new : S) (was is : Bool) (number now : ℕ) (item : Item) (row : has_row item.call ≡ true) (weak : s.tells → IsWeak (frame (s.image new)))
     (opens : s.tells → StaysOpenable s.opens_since s.moment old new) where
   -- a reply, of a volume that was hurt or not
-  pub served_reply : (r : Reply) (ready : Ready) → ready.to ≡ item.from → ready.bytes ≡ bytes_of item.xid r 0
-      → Applies s old new was is item.call item.cred now (outcome.Reply r) → IsServed s old new number now item ready
+  pub served_reply : (r : Reply) (ready : Ready) → ready.to ≡ item.from → ready.bytes ≡ bytes_of item.xid r volume
+      → Applies s old new was is item.call item.cred now (outcome.Reply r) → IsServed s volume old new number now item (Done number item now r) ready
   served_reply r ready to bytes applied = record {
-    event = Done number item now r;
     grows = grew_hold s clocked old new (Done number item now r ∷ [])
         (λ told found. let done = applied.leaves told in record { legal = ((row, done.0), tt); view_is = done.1; weak = weak told })
         (let cause = applied.cause in omega arith)
@@ -70,12 +69,11 @@ module _ {S : Type 0} (s : Ghosts S) (clocked : IsClocked s.tells s.image s.mome
   }
 
   -- the device failed, in the mend or in the call
-  pub served_io : (ready : Ready) → ready.to ≡ item.from → ready.bytes ≡ bytes_of item.xid (reply.Refused stat.Io) 0
-      → Applies s old new was is item.call item.cred now outcome.Io → IsServed s old new number now item ready
+  pub served_io : (ready : Ready) → ready.to ≡ item.from → ready.bytes ≡ bytes_of item.xid (reply.Refused stat.Io) volume
+      → Applies s old new was is item.call item.cred now outcome.Io → IsServed s volume old new number now item (Failed number (item ∷ []) now (view (s.image new))) ready
   served_io ready to bytes applied =
       let event : Event = Failed number (item ∷ []) now (view (s.image new)) in
       record {
-        event = event;
         grows = grew_hold s clocked old new (event ∷ [])
             (λ told found. record { legal = (applied.leaves told, tt); view_is = refl; weak = weak told })
             applied.cause.1

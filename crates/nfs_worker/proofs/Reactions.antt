@@ -16,6 +16,8 @@ use Rattle.datagrams.specs.Meaning.{meaning}
 use Rattle.nfs_worker.specs.Account.{Hold, Grew, history}
 use Rattle.rig.specs.Offers.{LeavesOut}
 use Rattle.nfs_worker.specs.Answers.{Answers, Comes, IsOwn, Replied, is_halting, halted_by}
+use Rattle.volume.specs.Mounted.{store_of}
+use Rattle.volume.specs.declared.mounted.Volume.{Volume}
 use Rattle.nfs_worker.specs.Desk.{Change, change_of, Tells}
 use Rattle.nfs_worker.specs.Tending.{IsUntended}
 use Rattle.nfs_worker.specs.declared.desk.Desk.{Desk}
@@ -59,24 +61,24 @@ asks_does from (Status xid volume) request desk then replies change is still = a
 asks_does from (Halt xid) request desk then replies change is still = absurd (cc)
 
 -- an answer outside any history is to something
-reacts_outside : (from : Address) (bytes : List ℕ) → IsAnswered (meaning bytes 1) → request_of from (meaning bytes 1) ≡ None → Reacts 1 (Datagram from bytes) []
-reacts_outside from bytes answered none = record {
+reacts_outside : (volumes : ℕ) (from : Address) (bytes : List ℕ) → IsAnswered (meaning bytes volumes) → request_of from (meaning bytes volumes) ≡ None → Reacts volumes (Datagram from bytes) []
+reacts_outside volumes from bytes answered none = record {
   means = answered;
   whole = sym (ap (λ (o : Option Request). filter_map (λ (p : Option Request). p) (o ∷ [])) none);
 }
 
-reacts_own : (from : Address) (bytes : List ℕ) (item : Item) (event : Event) → request_of from (meaning bytes 1) ≡ Some (0, item) → items_of event ≡ item ∷ []
-    → Reacts 1 (Datagram from bytes) (owned 0 (event ∷ []))
-reacts_own from bytes item event asked is = record {
-  means = asks-some from (meaning bytes 1) (0, item) asked;
+reacts_own : (volumes volume : ℕ) (from : Address) (bytes : List ℕ) (item : Item) (event : Event) → request_of from (meaning bytes volumes) ≡ Some (volume, item) → items_of event ≡ item ∷ []
+    → Reacts volumes (Datagram from bytes) (owned volume (event ∷ []))
+reacts_own volumes volume from bytes item event asked is = record {
+  means = asks-some from (meaning bytes volumes) (volume, item) asked;
   whole =
-      ap (λ (items : List Item). map (λ (i : Item). (0, i)) items ++ []) is
+      ap (λ (items : List Item). map (λ (i : Item). (volume, i)) items ++ []) is
       ∙ sym (ap (λ (o : Option Request). filter_map (λ (p : Option Request). p) (o ∷ [])) asked);
 }
 
-first_mine : (number : ℕ) (events : List Event) (event : Event) → events ≡ event ∷ [] → AllByRecursion (λ e. worker_at e ≡ number) events → worker_at event ≡ number
+first_mine : (number : ℕ) (events : List Event) (event : Event) → events ≡ event ∷ [] → AllByRecursion (λ e. worker_at e ≡ Some number) events → worker_at event ≡ Some number
 first_mine number [] event is mine = cc
-first_mine number (x ∷ xs) event is mine = let same : x ≡ event = cc in subst (λ (e : Event). worker_at e ≡ number) same mine.0
+first_mine number (x ∷ xs) event is mine = let same : x ≡ event = cc in subst (λ (e : Event). worker_at e ≡ Some number) same mine.0
 
 module _ {L : Type 0} (l : LinkGhosts L) {link mid link' : L} {from : Address} {bytes : List ℕ} (taken : IsTaken (worker_of l link) (worker_of l mid) (event.Datagram from) bytes) where
   -- a reply was offered: the link took it
@@ -90,34 +92,36 @@ module _ {L : Type 0} (l : LinkGhosts L) {link mid link' : L} {from : Address} {
   left_then : {done : Released} {reply : Address × List ℕ} → Releases l done mid link' reply → Takes (l.left link) (Datagram from bytes) (l.left link')
   left_then h = subst (λ left. Takes (l.left link) (Datagram from bytes) left) (sym h.left) taken.takes
 
-module _ {S L : Type 0} (s : Ghosts S) (l : LinkGhosts L) {store store' : S} {desk then : Desk} {link mid : L} (from : Address) (bytes : List ℕ)
+module _ {S L : Type 0} (s : Ghosts S) (l : LinkGhosts L) (volumes volume : ℕ) {old new : Volume S} {desk then : Desk} {link mid : L} (from : Address) (bytes : List ℕ)
     (taken : IsTaken (worker_of l link) (worker_of l mid) (event.Datagram from) bytes) (pass pass' : ServerPass) (result : Reaction)
-    (answers : Answers s store store' desk then pass.number pass'.second from (meaning bytes 1) result) (number : pass'.number ≡ pass.number) (received : pass'.numbers.received ≡ pass.numbers.received + 1) (link' : L) where
+    (answers : Answers s volume old new desk then pass.number pass'.second from (meaning bytes volumes) result) (number : pass'.number ≡ pass.number) (received : pass'.numbers.received ≡ pass.numbers.received + 1) (link' : L) where
   abbrev change : Change
-  change = change_of s store store'
+  change = change_of s (store_of old) (store_of new)
 
   abbrev events : List Event
   events = history answers.holds
 
   abbrev Turns : Turn → Type 0
-  Turns done = Turned s l (s.faults store) (s.snapshot_of store) store store' desk then link link' pass pass' done
+  Turns done = Turned s l volumes volume old new desk then link link' pass pass' done
 
   -- what the worker did in it, with these events
   abbrev Worked : List Event → List (Address × List ℕ) → Type 0
-  Worked events replies = Works 1 pass.number desk then (worker_of l link) (worker_of l link') (Datagram from bytes ∷ []) (owned 0 events) replies
+  Worked events replies = Works volumes pass.number desk then (worker_of l link) (worker_of l link') (Datagram from bytes ∷ []) (owned volume events) replies
 
   -- what its answer says
   abbrev Said : Turn → List Event → List (Address × List ℕ) → Type 0
-  Said done events replies = Says 1 done (Datagram from bytes) (owned 0 events) replies (l.faults link) (l.faults link')
+  Said done events replies = Says volumes done (Datagram from bytes) (owned volume events) replies (l.faults link) (l.faults link')
 
   -- the account, by what the link did
-  turned : (done : Turn) (replies : List (Address × List ℕ)) → Worked events replies → Said done events replies → Obeys done 1 desk (Datagram from bytes) replies change then
+  turned : (done : Turn) (replies : List (Address × List ℕ)) → Worked events replies → Said done events replies → Obeys done volumes desk (Datagram from bytes) replies change then
       → pass'.numbers.answered ≡ pass.numbers.answered + length replies → Turns done
   turned done replies works says obeys answered = record {
     heard = Datagram from bytes;
     holds = answers.holds;
     replies = replies;
+    at = answers.at;
     grows = answers.grows;
+    rest = answers.rest;
     works = works;
     says = says;
     obeys = obeys;
@@ -127,20 +131,20 @@ module _ {S L : Type 0} (s : Ghosts S) (l : LinkGhosts L) {store store' : S} {de
   }
 
   -- without an event
-  turned_alone : (done : Turn) (replies : List (Address × List ℕ)) → events ≡ [] → Worked [] replies → Said done [] replies → Obeys done 1 desk (Datagram from bytes) replies change then
+  turned_alone : (done : Turn) (replies : List (Address × List ℕ)) → events ≡ [] → Worked [] replies → Said done [] replies → Obeys done volumes desk (Datagram from bytes) replies change then
       → pass'.numbers.answered ≡ pass.numbers.answered + length replies → Turns done
   turned_alone done replies none works says obeys answered =
       turned done replies (subst (λ (es : List Event). Worked es replies) (sym none) works) (subst (λ (es : List Event). Said done es replies) (sym none) says) obeys answered
 
   -- nothing was offered to the link
-  turned_dropped : (why : DropCause) → Comes from (meaning bytes 1) desk then change events (reaction.Dropped why) → mid ≡ link' → pass'.numbers.answered ≡ pass.numbers.answered + 0 → Turns (turn.Dropped why)
+  turned_dropped : (why : DropCause) → Comes volume from (meaning bytes volumes) desk then change events (reaction.Dropped why) → mid ≡ link' → pass'.numbers.answered ≡ pass.numbers.answered + 0 → Turns (turn.Dropped why)
   turned_dropped why comes same answered = case why comes
     where
       silent : then ≡ desk → Worked [] []
-      silent still = works_silent 1 pass.number (worker_of l link) (worker_of l link') (Datagram from bytes) still (subst (λ (x : L). Takes (l.left link) (Datagram from bytes) (l.left x)) same taken.takes)
+      silent still = works_silent volumes pass.number (worker_of l link) (worker_of l link') (Datagram from bytes) still (subst (λ (x : L). Takes (l.left link) (Datagram from bytes) (l.left x)) same taken.takes)
           (subst (λ (x : L). Sends (worker_of l link) (worker_of l x) [] []) same (offers_nothing taken.sent taken.later))
 
-      case : (c : DropCause) → Comes from (meaning bytes 1) desk then change events (reaction.Dropped c) → Turns (turn.Dropped c)
+      case : (c : DropCause) → Comes volume from (meaning bytes volumes) desk then change events (reaction.Dropped c) → Turns (turn.Dropped c)
       case cause.NoMeaning h = turned_alone (turn.Dropped cause.NoMeaning) [] h.0.0 (silent h.1.0) h.0.1 h.1 answered
       case cause.NoMemory h = turned_alone (turn.Dropped cause.NoMemory) [] h.0 (silent h.1.0) (tt, refl) h.1 answered
       case cause.SendFailed h = absurd h
@@ -148,57 +152,57 @@ module _ {S L : Type 0} (s : Ghosts S) (l : LinkGhosts L) {store store' : S} {de
 
   -- ---- an answer outside any history
 
-  module _ (reply : List ℕ) (none : events ≡ []) (tells : Tells desk (meaning bytes 1) change reply then) where
-    offered_sent : (done : Turn) → Releases l released.Sent mid link' (from, reply) → Said done [] ((from, reply) ∷ []) → Obeys done 1 desk (Datagram from bytes) ((from, reply) ∷ []) change then
+  module _ (reply : List ℕ) (none : events ≡ []) (tells : Tells desk (meaning bytes volumes) change reply then) where
+    offered_sent : (done : Turn) → Releases l released.Sent mid link' (from, reply) → Said done [] ((from, reply) ∷ []) → Obeys done volumes desk (Datagram from bytes) ((from, reply) ∷ []) change then
         → pass'.numbers.answered ≡ pass.numbers.answered + 1 → Turns done
     offered_sent done h says obeys answered = turned_alone done ((from, reply) ∷ []) none
-        (works_outside 1 pass.number (worker_of l link) (worker_of l link') from bytes reply _ change tells (left_then l taken h) (sent l taken (from, reply) h)) says obeys answered
+        (works_outside volumes pass.number (worker_of l link) (worker_of l link') from bytes reply _ change tells (left_then l taken h) (sent l taken (from, reply) h)) says obeys answered
 
-    offered_unsent : (done : Turn) → Releases l released.SendFailed mid link' (from, reply) → Said done [] [] → Obeys done 1 desk (Datagram from bytes) [] change then
+    offered_unsent : (done : Turn) → Releases l released.SendFailed mid link' (from, reply) → Said done [] [] → Obeys done volumes desk (Datagram from bytes) [] change then
         → pass'.numbers.answered ≡ pass.numbers.answered + 0 → Turns done
     offered_unsent done h says obeys answered = turned_alone done [] none
-        (works_outside 1 pass.number (worker_of l link) (worker_of l link') from bytes reply _ change tells (left_then l taken h) (unsent l taken (from, reply) h)) says obeys answered
+        (works_outside volumes pass.number (worker_of l link) (worker_of l link') from bytes reply _ change tells (left_then l taken h) (unsent l taken (from, reply) h)) says obeys answered
 
-    reacts : IsAnswered (meaning bytes 1) → Reacts 1 (Datagram from bytes) []
-    reacts answered = reacts_outside from bytes answered (tells_none from desk then (meaning bytes 1) change reply tells)
+    reacts : IsAnswered (meaning bytes volumes) → Reacts volumes (Datagram from bytes) []
+    reacts answered = reacts_outside volumes from bytes answered (tells_none from desk then (meaning bytes volumes) change reply tells)
 
-    does_sent : DoesBy desk from (meaning bytes 1) ((from, reply) ∷ []) change then
-    does_sent = does_told from desk then (meaning bytes 1) ((from, reply) ∷ []) change reply tells (leaves_all _)
+    does_sent : DoesBy desk from (meaning bytes volumes) ((from, reply) ∷ []) change then
+    does_sent = does_told from desk then (meaning bytes volumes) ((from, reply) ∷ []) change reply tells (leaves_all _)
 
-    does_unsent : DoesBy desk from (meaning bytes 1) [] change then
-    does_unsent = does_told from desk then (meaning bytes 1) [] change reply tells (leaves_none _)
+    does_unsent : DoesBy desk from (meaning bytes volumes) [] change then
+    does_unsent = does_told from desk then (meaning bytes volumes) [] change reply tells (leaves_none _)
 
-    turned_outside : (done : Released) → IsAnswered (meaning bytes 1) → Releases l done mid link' (from, reply) → pass'.numbers.answered ≡ pass.numbers.answered + answers_in (turn_of done) → Turns (turn_of done)
+    turned_outside : (done : Released) → IsAnswered (meaning bytes volumes) → Releases l done mid link' (from, reply) → pass'.numbers.answered ≡ pass.numbers.answered + answers_in (turn_of done) → Turns (turn_of done)
     turned_outside released.Sent is h answered = offered_sent (turn.Answered 1) h (reacts is, refl, omega arith) does_sent answered
     turned_outside released.SendFailed is h answered =
         offered_unsent (turn.Dropped cause.SendFailed) h (reacts is, rose_earlier 1 (l.faults link) (l.faults mid) (l.faults link') taken.later (h.failed refl), refl) does_unsent answered
 
     -- and the server ends
-    turned_halt : (done : Released) → IsHalt (meaning bytes 1) → Releases l done mid link' (from, reply) → pass'.numbers.answered ≡ pass.numbers.answered + answers_in (turn_of done) → Turns turn.Halted
+    turned_halt : (done : Released) → IsHalt (meaning bytes volumes) → Releases l done mid link' (from, reply) → pass'.numbers.answered ≡ pass.numbers.answered + answers_in (turn_of done) → Turns turn.Halted
     turned_halt released.Sent is h answered = offered_sent turn.Halted h (is, refl) does_sent answered
     turned_halt released.SendFailed is h answered = offered_unsent turn.Halted h (is, refl) does_unsent answered
 
   -- ---- the reply of an event
 
-  turned_ready : (ready : Ready) (done : Released) → IsOwn from (meaning bytes 1) events ready → (then ≡ desk) × IsUntended change.old change.new → Releases l done mid link' (ready.to, ready.bytes)
+  turned_ready : (ready : Ready) (done : Released) → IsOwn volume from (meaning bytes volumes) events ready → (then ≡ desk) × IsUntended change.old change.new → Releases l done mid link' (ready.to, ready.bytes)
       → pass'.numbers.answered ≡ pass.numbers.answered + answers_in (turn_of done) → Turns (turn_of done)
   turned_ready ready released.Sent own still h answered =
       let reply : Address × List ℕ = (ready.to, ready.bytes) in
       turned (turn.Answered 1) (reply ∷ [])
       (subst (λ (es : List Event). Worked es (reply ∷ [])) (sym own.only)
-      (works_event 1 pass.number 0 (worker_of l link) (worker_of l link') from bytes own.item own.event _ still.0 own.asked own.item_is (first_mine pass.number events own.event own.only answers.mine) (left_then l taken h)
+      (works_event volumes pass.number volume (worker_of l link) (worker_of l link') from bytes own.item own.event _ still.0 own.asked own.item_is (first_mine pass.number events own.event own.only answers.mine) (left_then l taken h)
       (subst (λ (offered : List (Address × List ℕ)). Sends (worker_of l link) (worker_of l link') offered (reply ∷ [])) (sym own.reply_is) (sent l taken reply h))))
-      (subst (λ (es : List Event). Said (turn.Answered 1) es (reply ∷ [])) (sym own.only) (reacts_own from bytes own.item own.event own.asked own.item_is, refl, omega arith))
-      (asks_does from (meaning bytes 1) (0, own.item) desk then (reply ∷ []) change own.asked still) answered
+      (subst (λ (es : List Event). Said (turn.Answered 1) es (reply ∷ [])) (sym own.only) (reacts_own volumes volume from bytes own.item own.event own.asked own.item_is, refl, omega arith))
+      (asks_does from (meaning bytes volumes) (volume, own.item) desk then (reply ∷ []) change own.asked still) answered
   turned_ready ready released.SendFailed own still h answered =
       let reply : Address × List ℕ = (ready.to, ready.bytes) in
       turned (turn.Dropped cause.SendFailed) []
       (subst (λ (es : List Event). Worked es []) (sym own.only)
-      (works_event 1 pass.number 0 (worker_of l link) (worker_of l link') from bytes own.item own.event _ still.0 own.asked own.item_is (first_mine pass.number events own.event own.only answers.mine) (left_then l taken h)
+      (works_event volumes pass.number volume (worker_of l link) (worker_of l link') from bytes own.item own.event _ still.0 own.asked own.item_is (first_mine pass.number events own.event own.only answers.mine) (left_then l taken h)
       (subst (λ (offered : List (Address × List ℕ)). Sends (worker_of l link) (worker_of l link') offered []) (sym own.reply_is) (unsent l taken reply h))))
       (subst (λ (es : List Event). Said (turn.Dropped cause.SendFailed) es []) (sym own.only)
-      (reacts_own from bytes own.item own.event own.asked own.item_is, rose_earlier 1 (l.faults link) (l.faults mid) (l.faults link') taken.later (h.failed refl), refl))
-      (asks_does from (meaning bytes 1) (0, own.item) desk then [] change own.asked still) answered
+      (reacts_own volumes volume from bytes own.item own.event own.asked own.item_is, rose_earlier 1 (l.faults link) (l.faults mid) (l.faults link') taken.later (h.failed refl), refl))
+      (asks_does from (meaning bytes volumes) (volume, own.item) desk then [] change own.asked still) answered
 
   -- what was sent of what it came to, and whether the server ends
   pub turned_replied : (done final : Turn) → Replied l from result mid link' done → pass'.numbers.answered ≡ pass.numbers.answered + answers_in done → final ≡ halted_by (is_halting result) done → Turns final
@@ -207,7 +211,7 @@ module _ {S L : Type 0} (s : Ghosts S) (l : LinkGhosts L) {store store' : S} {de
       counted : (t : Turn) → done ≡ t → pass'.numbers.answered ≡ pass.numbers.answered + answers_in t
       counted t same = answered ∙ ap (λ (x : Turn). pass.numbers.answered + answers_in x) same
 
-      case : (r : Reaction) → Comes from (meaning bytes 1) desk then change events r → Replied l from r mid link' done → Turns (halted_by (is_halting r) done)
+      case : (r : Reaction) → Comes volume from (meaning bytes volumes) desk then change events r → Replied l from r mid link' done → Turns (halted_by (is_halting r) done)
       case (reaction.Ready ready) comes h = subst Turns (sym h.2) (turned_ready ready h.0 comes.0 comes.1 h.1 (counted (turn_of h.0) h.2))
       case (reaction.Outside reply) comes h = subst Turns (sym h.2) (turned_outside reply comes.0 comes.1.1 h.0 comes.1.0 h.1 (counted (turn_of h.0) h.2))
       case (reaction.Mounted reply) comes h = subst Turns (sym h.2) (turned_outside reply comes.0 comes.1.1 h.0 comes.1.0 h.1 (counted (turn_of h.0) h.2))

@@ -12,6 +12,10 @@ module _ {S : Type 0} (s : Ghosts S) where
   pub stays_so : (volume : Volume S) → Rests s volume → StaysAtRest s volume volume
   stays_so volume rest = record { rest = rest; hurt = λ hurt sound. let none = sym hurt ∙ sound in cc }
 
+  -- its store was tended
+  pub stays_tended : {a b : Volume S} → Rests s b → SameButStore a b → StaysAtRest s a b
+  stays_tended {a} {b} rest kept = record { rest = rest; hurt = λ hurt sound. let same = ap (λ (v : Volume S). is_hurt v) kept in let none = sym hurt ∙ same ∙ sound in cc }
+
   -- its store was tended before
   pub stays_after : {a b c : Volume S} → SameButStore a b → s.faults (store_of a) ≤ s.faults (store_of b) → StaysAtRest s b c → StaysAtRest s a c
   stays_after {a} {b} {c} kept later q = record {

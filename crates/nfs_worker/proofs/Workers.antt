@@ -1,12 +1,14 @@
 -- The account of a worker, over one run after another.
-use Rattle.std.proofs.Common.{arith, ◌≡◌, ℕ, List, [], ◌∷◌, ◌++◌, refl, sym, ap, ◌∙◌, append_assoc}
+use Rattle.std.proofs.Common.{arith, ◌≡◌, ◌≢◌, ℕ, Bool, true, false, List, [], ◌∷◌, ◌++◌, Some, cond, refl, sym, ap, ◌∙◌, append_assoc}
+use Rattle.std.specs.Prelude.{nat_eq}
+use Rattle.std.proofs.lemmas.Bool.{eq-eqb, eqb-true}
 use Rattle.std.specs.List.{flat_map, AllByRecursion}
 use Rattle.std.proofs.lemmas.List.Elements.{filter_map-append}
 use Rattle.files_model.specs.declared.address.Address.{Address}
 use Rattle.files_model.specs.History.{Event}
 use Rattle.rig.specs.Links.{Heard}
 use Rattle.rig.specs.Offers.LeavesOut.{none}
-use Rattle.nfs_worker.specs.Worker.{worker_at, Worker, Own, owned, Works, request_in, requests_of, replies_of}
+use Rattle.nfs_worker.specs.Worker.{worker_at, Worker, Own, owned, events_on, Works, request_in, requests_of, replies_of}
 use Rattle.nfs_worker.specs.Worker.Mixes.{neither}
 use Rattle.nfs_worker.specs.declared.desk.Desk.{Desk}
 use Rattle.nfs_worker.proofs.Desks.{answered_none, answered_both}
@@ -35,8 +37,27 @@ works_both volumes number {desk} {mid} {then} a b c heard heard' own own' rs rs'
   offered = p.offered ++ q.offered;
   mixed = rw (flat_map-append replies_of own own') (mixes_both _ _ _ _ _ _ p.mixed q.mixed);
   sends = offers_both p.offered q.offered rs rs' p.sends q.sends;
-  mine = all-append (λ (o : Own). worker_at o.event ≡ number) own own' p.mine q.mine;
+  mine = all-append (λ (o : Own). worker_at o.event ≡ Some number) own own' p.mine q.mine;
 }
+
+-- ---- the events of a volume
+
+pub on-append : (volume : ℕ) (xs ys : List Own) → events_on volume (xs ++ ys) ≡ events_on volume xs ++ events_on volume ys
+on-append volume xs ys = flat_map-append (λ (one : Own). cond (nat_eq one.volume volume) (one.event ∷ []) []) xs ys
+
+-- those of the volume itself
+pub on_own : (volume : ℕ) (events : List Event) → events_on volume (owned volume events) ≡ events
+on_own volume [] = refl
+on_own volume (event ∷ events) = ap (λ (b : Bool). (cond b (event ∷ []) []) ++ events_on volume (owned volume events)) (eq-eqb volume volume refl) ∙ ap (λ (es : List Event). event ∷ es) (on_own volume events)
+
+-- of another there are none
+other_one : (n volume : ℕ) (event : Event) (events : List Event) (b : Bool) → nat_eq volume n ≡ b → n ≢ volume → cond (nat_eq volume n) (event ∷ []) [] ++ events ≡ events
+other_one n volume event events true is other = absurd (other (sym (eqb-true volume n is)))
+other_one n volume event events false is other = ap (λ (b : Bool). cond b (event ∷ []) [] ++ events) is
+
+pub on_other : (n volume : ℕ) (events : List Event) → n ≢ volume → events_on n (owned volume events) ≡ []
+on_other n volume [] other = refl
+on_other n volume (event ∷ events) other = other_one n volume event (events_on n (owned volume events)) (nat_eq volume n) refl other ∙ on_other n volume events other
 
 -- nothing was heard and nothing done
 pub works_nothing : (volumes number : ℕ) (desk : Desk) (a : Worker) → Works volumes number desk desk a a [] [] []

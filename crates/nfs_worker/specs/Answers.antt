@@ -13,7 +13,10 @@ use Rattle.nfs_worker.specs.Tending.{IsUntended}
 use Rattle.nfs_worker.specs.declared.desk.Desk.{Desk}
 use Rattle.nfs_worker.specs.Account.{Hold, Grew, history}
 use Rattle.nfs_worker.specs.Served.{Releases}
-use Rattle.nfs_worker.specs.Turns.{turn_of, IsHalt, IsAnswered}
+use Rattle.nfs_worker.specs.Resting.{StaysAtRest}
+use Rattle.nfs_worker.specs.Turns.{turn_of, place_of, IsHalt, IsAnswered}
+use Rattle.volume.specs.Mounted.{store_of}
+use Rattle.volume.specs.declared.mounted.Volume.{Volume}
 use Rattle.nfs_worker.specs.Worker.{worker_at, replies_of, request_of}
 use Rattle.nfs_worker.specs.declared.answering.Reaction.{Reaction}
 use Rattle.nfs_worker.specs.declared.answering.Reaction.TheVariants as reaction
@@ -23,37 +26,39 @@ use Rattle.nfs_worker.specs.declared.turning.DropCause.TheVariants as cause
 use Rattle.nfs_worker.specs.declared.turning.Turn.{Turn}
 use Rattle.nfs_worker.specs.declared.turning.Turn.TheVariants as turn
 
--- a call has a row of the step, and is on volume 0
-abbrev pub IsFirst : Meaning → Type 0
-IsFirst (Asks xid volume cred call) = (has_row call ≡ true) × (volume ≡ 0)
-IsFirst _ = Unit {0}
+-- a call has a row of the step
+abbrev pub HasRow : Meaning → Type 0
+HasRow (Asks xid volume cred call) = has_row call ≡ true
+HasRow _ = Unit {0}
 
--- The events are one, of the call that a datagram of this meaning asks of volume 0; what is ready is its reply.
-pub record IsOwn (from : Address) (means : Meaning) (events : List Event) (ready : Ready) : Type 0 where
+-- The events are one, of the call that a datagram of this meaning asks of this volume; what is ready is its reply.
+pub record IsOwn (volume : ℕ) (from : Address) (means : Meaning) (events : List Event) (ready : Ready) : Type 0 where
   pub event : Event
   pub only : events ≡ event ∷ []
   pub item : Item
-  pub asked : request_of from means ≡ Some (0, item)
+  pub asked : request_of from means ≡ Some (volume, item)
   pub item_is : items_of event ≡ item ∷ []
-  pub reply_is : replies_of (record { volume = 0; event = event }) ≡ (ready.to, ready.bytes) ∷ []
+  pub reply_is : replies_of (record { volume = volume; event = event }) ≡ (ready.to, ready.bytes) ∷ []
 
 -- what each answer says of the datagram, the events, the store and the desk; where there is no memory nothing was done
-abbrev pub Comes : Address → Meaning → Desk → Desk → Change → List Event → Reaction → Type 0
-Comes from means desk then change events (reaction.Ready ready) = IsOwn from means events ready × ((then ≡ desk) × IsUntended change.old change.new)
-Comes from means desk then change events (reaction.Outside reply) = (events ≡ []) × (IsAnswered means × Tells desk means change reply then)
-Comes from means desk then change events (reaction.Mounted reply) = (events ≡ []) × (IsAnswered means × Tells desk means change reply then)
-Comes from means desk then change events (reaction.Halt reply) = (events ≡ []) × (IsHalt means × Tells desk means change reply then)
-Comes from means desk then change events (reaction.Dropped cause.NoMeaning) = ((events ≡ []) × (means ≡ NoMeaning)) × ((then ≡ desk) × IsUntended change.old change.new)
-Comes from means desk then change events (reaction.Dropped cause.NoMemory) = (events ≡ []) × ((then ≡ desk) × IsUntended change.old change.new)
-Comes from means desk then change events (reaction.Dropped cause.SendFailed) = ⊥
-Comes from means desk then change events (reaction.Dropped cause.ReceiveFailed) = ⊥
+abbrev pub Comes : ℕ → Address → Meaning → Desk → Desk → Change → List Event → Reaction → Type 0
+Comes volume from means desk then change events (reaction.Ready ready) = IsOwn volume from means events ready × ((then ≡ desk) × IsUntended change.old change.new)
+Comes volume from means desk then change events (reaction.Outside reply) = (events ≡ []) × (IsAnswered means × Tells desk means change reply then)
+Comes volume from means desk then change events (reaction.Mounted reply) = (events ≡ []) × (IsAnswered means × Tells desk means change reply then)
+Comes volume from means desk then change events (reaction.Halt reply) = (events ≡ []) × (IsHalt means × Tells desk means change reply then)
+Comes volume from means desk then change events (reaction.Dropped cause.NoMeaning) = ((events ≡ []) × (means ≡ NoMeaning)) × ((then ≡ desk) × IsUntended change.old change.new)
+Comes volume from means desk then change events (reaction.Dropped cause.NoMemory) = (events ≡ []) × ((then ≡ desk) × IsUntended change.old change.new)
+Comes volume from means desk then change events (reaction.Dropped cause.SendFailed) = ⊥
+Comes volume from means desk then change events (reaction.Dropped cause.ReceiveFailed) = ⊥
 
--- A datagram of this meaning was answered, in at most one hold of the volume, by this worker and at this time.
-pub record Answers {S : Type 0} (s : Ghosts S) (old new : S) (desk then : Desk) (number now : ℕ) (from : Address) (means : Meaning) (result : Reaction) : Type 0 where
+-- A datagram of this meaning was answered, in at most one hold of this volume, by this worker and at this time.
+pub record Answers {S : Type 0} (s : Ghosts S) (volume : ℕ) (old new : Volume S) (desk then : Desk) (number now : ℕ) (from : Address) (means : Meaning) (result : Reaction) : Type 0 where
   pub holds : List Hold
-  pub grows : Grew s old new holds
-  pub comes : Comes from means desk then (change_of s old new) (history holds) result
-  pub mine : AllByRecursion (λ event. worker_at event ≡ number) (history holds)
+  pub at : volume ≡ place_of means
+  pub grows : Grew s (store_of old) (store_of new) holds
+  pub rest : StaysAtRest s old new
+  pub comes : Comes volume from means desk then (change_of s (store_of old) (store_of new)) (history holds) result
+  pub mine : AllByRecursion (λ event. worker_at event ≡ Some number) (history holds)
   pub timed : AllByRecursion (λ event. time_of event ≡ now) (history holds)
 
 -- it is sent, and then the server ends

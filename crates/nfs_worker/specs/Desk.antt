@@ -1,5 +1,5 @@
 -- What is answered outside the histories of the volumes, one datagram after the other (docs/FORMATS.md, "MOUNT" and "Control program").
-use Rattle.std.specs.Prelude.{◌≡◌, ℕ, ◌+◌, ◌-◌, ◌%◌, ◌^◌, List, [], ◌∷◌}
+use Rattle.std.specs.Prelude.{◌≡◌, ℕ, ◌+◌, ◌-◌, ◌%◌, ◌^◌, List, [], ◌∷◌, length, slice_index}
 use Rattle.files_model.specs.declared.address.Address.{Address}
 use Rattle.files_model.specs.declared.attributes.FileId.{FileId}
 use Rattle.stable.specs.declared.command.Answer.{Answer}
@@ -23,12 +23,12 @@ use Rattle.nfs_worker.specs.declared.desk.Desk.{Desk}
 -- ---- the list of mounts
 
 -- as the workers are opened: no machine has mounted anything
-abbrev pub new_desk : FileId → ℕ → Desk
-new_desk root puts = record { mounts = record { volumes = 1; rows = [] }; root = root; first_puts = puts }
+abbrev pub new_desk : List FileId → List ℕ → Desk
+new_desk roots puts = record { mounts = record { volumes = length roots; rows = [] }; roots = roots; first_puts = puts }
 
 -- after a call of MOUNT
 abbrev pub after_call : Desk → RpcCall → Desk
-after_call desk rpc = record { mounts = with_rows desk.mounts (rows_after desk.mounts rpc); root = desk.root; first_puts = desk.first_puts }
+after_call desk rpc = record { mounts = with_rows desk.mounts (rows_after desk.mounts rpc); roots = desk.roots; first_puts = desk.first_puts }
 
 -- ---- the control program
 
@@ -79,9 +79,9 @@ abbrev pub Tells : Desk → Meaning → Change → List ℕ → Desk → Type 0
 Tells desk NoMeaning change reply then = ⊥
 Tells desk (Asks xid volume cred call) change reply then = ⊥
 Tells desk (Outside answer) change reply then = (reply ≡ answer) × (then ≡ desk) × IsUntended change.old change.new
-Tells desk (Mount rpc) change reply then = (reply ≡ reply_to desk.mounts (desk.root ∷ []) rpc) × (then ≡ after_call desk rpc) × IsUntended change.old change.new
+Tells desk (Mount rpc) change reply then = (reply ≡ reply_to desk.mounts desk.roots rpc) × (then ≡ after_call desk rpc) × IsUntended change.old change.new
 Tells desk (Command xid volume asked) change reply then = IsObeyed xid asked change reply × (then ≡ desk)
-Tells desk (Status xid volume) change reply then = (reply ≡ status_reply xid desk.first_puts change.new) × (then ≡ desk) × (change.new ≡ change.old)
+Tells desk (Status xid volume) change reply then = (reply ≡ status_reply xid (slice_index desk.first_puts volume) change.new) × (then ≡ desk) × (change.new ≡ change.old)
 Tells desk (Halt xid) change reply then = (reply ≡ answer_bytes xid 0 0) × (then ≡ desk) × IsUntended change.old change.new
 
 -- ---- one answer after the other

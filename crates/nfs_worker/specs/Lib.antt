@@ -3,6 +3,8 @@ pub mod Answers
 pub mod Desk
 pub mod Resting
 pub mod Served
+pub mod Sharing
 pub mod Tending
 pub mod Turns
+pub mod Volumes
 pub mod Worker

@@ -17,11 +17,17 @@ use Rattle.stable.specs.declared.snapshot.Snapshot.{Snapshot}
 use Rattle.datagrams.specs.declared.datagram.Datagram.{Datagram as Meaning}
 use Rattle.datagrams.specs.declared.datagram.Datagram.TheVariants.{NoMeaning, Outside, Asks, Mount, Command, Status, Halt}
 use Rattle.datagrams.specs.Meaning.{meaning}
-use Rattle.nfs_worker.specs.Desk.{Change, Tells}
+use Rattle.stable.specs.Looked.{KeepsImage}
+use Rattle.volume.specs.Mounted.{store_of, SameButStore}
+use Rattle.volume.specs.Rests.{Rests}
+use Rattle.volume.specs.declared.mounted.Volume.{Volume}
+use Rattle.nfs_worker.specs.Desk.{Change, change_of, Tells}
+use Rattle.nfs_worker.specs.Resting.{StaysAtRest}
+use Rattle.nfs_worker.specs.Volumes.{Pairwise, EachVolume, OneAlone}
 use Rattle.nfs_worker.specs.Tending.{IsTended, IsUntended}
 use Rattle.nfs_worker.specs.declared.desk.Desk.{Desk}
 use Rattle.nfs_worker.specs.Account.{Hold, Grew, history}
-use Rattle.nfs_worker.specs.Worker.{Own, owned, request_in, requests_of, worker_of, Works}
+use Rattle.nfs_worker.specs.Worker.{Own, owned, events_on, request_in, requests_of, worker_of, Works}
 use Rattle.nfs_worker.specs.declared.pass.Numbers.{Numbers}
 use Rattle.nfs_worker.specs.declared.pass.ServerPass.{ServerPass}
 use Rattle.nfs_worker.specs.declared.releasing.Released.{Released}
@@ -33,6 +39,23 @@ use Rattle.nfs_worker.specs.declared.turning.Ended.{Ended}
 use Rattle.nfs_worker.specs.declared.turning.Ended.TheVariants as ended
 
 -- ---- one turn
+
+-- the volume that a datagram of this meaning is for, and the first where it is for none
+abbrev pub place_of : Meaning → ℕ
+place_of (Asks xid volume cred call) = volume
+place_of (Command xid volume asked) = volume
+place_of (Status xid volume) = volume
+place_of NoMeaning = 0
+place_of (Outside answer) = 0
+place_of (Mount rpc) = 0
+place_of (Halt xid) = 0
+
+-- where so many volumes are open
+abbrev pub place_in : ℕ → Heard → ℕ
+place_in volumes (Datagram from bytes) = place_of (meaning bytes volumes)
+place_in volumes Idle = 0
+place_in volumes Closed = 0
+place_in volumes Failed = 0
 
 -- a datagram that means nothing
 abbrev pub MeansNothing : ℕ → Heard → Type 0
@@ -150,27 +173,38 @@ EventTurn event.Idle result = result ≡ turn.Idle
 EventTurn event.Closed result = result ≡ turn.Closed
 EventTurn event.Failed result = result ≡ turn.Dropped cause.ReceiveFailed
 
--- The account of a turn from its event on: what it heard, what the volume and the link did, what its answer says, and what the pass counted. Its events have the pass's second. As the event was taken the store had
--- counted so many faults and showed this.
-pub record Turned {S L : Type 0} (s : Ghosts S) (l : LinkGhosts L) (faults : ℕ) (shown : Snapshot) (store store' : S) (desk then : Desk) (link link' : L) (pass pass' : ServerPass) (result : Turn) : Type 0 where
+-- The account of a turn from its event on, of the volume that it is for: what was heard, what the volume and the link did, what the answer says, and what the pass counted. Its events have the pass's second.
+pub record Turned {S L : Type 0} (s : Ghosts S) (l : LinkGhosts L) (volumes volume : ℕ) (old new : Volume S) (desk then : Desk) (link link' : L) (pass pass' : ServerPass) (result : Turn) : Type 0 where
   pub heard : Heard
   pub holds : List Hold
   pub replies : List (Address × List ℕ)
-  pub grows : Grew s store store' holds
-  pub works : Works 1 pass.number desk then (worker_of l link) (worker_of l link') (heard ∷ []) (owned 0 (history holds)) replies
-  pub says : Says 1 result heard (owned 0 (history holds)) replies (l.faults link) (l.faults link')
-  pub obeys : Obeys result 1 desk heard replies (record { faults = faults; faults_after = s.faults store'; old = shown; new = s.snapshot_of store' }) then
+  pub at : volume ≡ place_in volumes heard
+  pub grows : Grew s (store_of old) (store_of new) holds
+  pub rest : StaysAtRest s old new
+  pub works : Works volumes pass.number desk then (worker_of l link) (worker_of l link') (heard ∷ []) (owned volume (history holds)) replies
+  pub says : Says volumes result heard (owned volume (history holds)) replies (l.faults link) (l.faults link')
+  pub obeys : Obeys result volumes desk heard replies (change_of s (store_of old) (store_of new)) then
   pub counts : Counts pass.numbers pass'.numbers (heard ∷ []) replies
   pub timed : AllByRecursion (λ event. time_of event ≡ pass'.second) (history holds)
   pub number : pass'.number ≡ pass.number
 
--- A turn: its store was tended, the battery polled or not, and then an event was taken.
-pub record TookTurn {S L : Type 0} (s : Ghosts S) (l : LinkGhosts L) (polled : Bool) (store store' : S) (desk then : Desk) (link link' : L) (pass pass' : ServerPass) (result : Turn) : Type 0 where
-  pub faults : ℕ
-  pub shown : Snapshot
-  pub later : s.faults store ≤ faults
-  pub tended : IsTended polled (s.snapshot_of store) shown
-  pub turned : Turned s l faults shown store store' desk then link link' pass pass' result
+-- An event was taken, and answered on one of the volumes. The others are as they were.
+pub record TookEvent {S L : Type 0} (s : Ghosts S) (l : LinkGhosts L) (olds news : List (Volume S)) (desk then : Desk) (link link' : L) (pass pass' : ServerPass) (result : Turn) : Type 0 where
+  pub volume : ℕ
+  pub alone : OneAlone (λ (old new : Volume S). Turned s l (length olds) volume old new desk then link link' pass pass' result) volume olds news
+
+-- A volume was tended before an event was taken: its battery was polled or not.
+pub record Tends {S : Type 0} (s : Ghosts S) (polled : Bool) (old new : Volume S) : Type 0 where
+  pub rest : Rests s new
+  pub kept : SameButStore old new
+  pub keeps : KeepsImage s (store_of old) (store_of new)
+  pub tended : IsTended polled (s.snapshot_of (store_of old)) (s.snapshot_of (store_of new))
+
+-- A turn: each volume was tended, the battery polled or not, and then an event was taken.
+pub record TookTurn {S L : Type 0} (s : Ghosts S) (l : LinkGhosts L) (polled : Bool) (olds news : List (Volume S)) (desk then : Desk) (link link' : L) (pass pass' : ServerPass) (result : Turn) : Type 0 where
+  pub mids : List (Volume S)
+  pub tended : Pairwise (Tends s polled) olds mids
+  pub took : TookEvent s l mids news desk then link link' pass pass' result
 
 -- The clock was asked once, and its answer is this second.
 pub record IsAsked {C : Type 0} (c : ClockGhosts C) (clock clock' : C) (second : ℕ) : Type 0 where
@@ -197,35 +231,42 @@ pub record IsClosed (turns : ℕ) (heard : List Heard) : Type 0 where
   pub within : length heard ≤ turns
 
 -- the last event is a datagram that tells the server to end, and none before closed the link
-pub record IsHalted (turns : ℕ) (heard : List Heard) : Type 0 where
+pub record IsHalted (volumes turns : ℕ) (heard : List Heard) : Type 0 where
   pub before : List Heard
   pub halt : Heard
   pub last : heard ≡ before ++ halt ∷ []
-  pub means : MeansHalt 1 halt
+  pub means : MeansHalt volumes halt
   pub open_before : IsOpen before
   pub within : length heard ≤ turns
 
 -- what an end says of what was heard
-abbrev pub EndsBy : Ended → ℕ → List Heard → Type 0
-EndsBy ended.Closed turns heard = IsClosed turns heard
-EndsBy ended.Spent turns heard = IsSpent turns heard
-EndsBy ended.Halted turns heard = IsHalted turns heard
+abbrev pub EndsBy : ℕ → Ended → ℕ → List Heard → Type 0
+EndsBy volumes ended.Closed turns heard = IsClosed turns heard
+EndsBy volumes ended.Spent turns heard = IsSpent turns heard
+EndsBy volumes ended.Halted turns heard = IsHalted volumes turns heard
 
--- Turns were taken, one after the other, to an end. The battery was polled as often as the clock's second changed, but for its first change, which may be one from the second before.
-pub record Worked {S L C : Type 0} (s : Ghosts S) (l : LinkGhosts L) (c : ClockGhosts C) (store store' : S) (desk then : Desk) (link link' : L) (clock clock' : C) (pass pass' : ServerPass) (ended : Ended) (turns : ℕ) : Type 0 where
+-- How a volume went on in turns of a worker, whose own events these are: by holds of its events among them. Its battery was polled so often at least.
+pub record Went {S : Type 0} (s : Ghosts S) (times : ℕ) (own : List Own) (volume : ℕ) (old new : Volume S) (holds : List Hold) : Type 0 where
+  pub grows : Grew s (store_of old) (store_of new) holds
+  pub shared : events_on volume own ≡ history holds
+  pub polled : RoseBy times (s.snapshot_of (store_of old)).polls (s.snapshot_of (store_of new)).polls
+  pub rest : StaysAtRest s old new
+
+-- Turns were taken, one after the other, to an end. Each battery was polled as often as the clock's second changed, but for its first change, which may be one from the second before.
+pub record Worked {S L C : Type 0} (s : Ghosts S) (l : LinkGhosts L) (c : ClockGhosts C) (olds news : List (Volume S)) (desk then : Desk) (link link' : L) (clock clock' : C) (pass pass' : ServerPass) (ended : Ended) (turns : ℕ) : Type 0 where
   pub heard : List Heard
-  pub holds : List Hold
+  pub own : List Own
+  pub holds : List (List Hold)
   pub replies : List (Address × List ℕ)
-  pub grows : Grew s store store' holds
-  pub works : Works 1 pass.number desk then (worker_of l link) (worker_of l link') heard (owned 0 (history holds)) replies
-  pub ends : EndsBy ended turns heard
+  pub went : EachVolume (Went s (c.changes clock' - c.changes clock - 1) own) 0 olds news holds
+  pub works : Works (length olds) pass.number desk then (worker_of l link) (worker_of l link') heard own replies
+  pub ends : EndsBy (length olds) ended turns heard
   pub counts : Counts pass.numbers pass'.numbers heard replies
   pub number : pass'.number ≡ pass.number
-  pub polled : RoseBy (c.changes clock' - c.changes clock - 1) (s.snapshot_of store).polls (s.snapshot_of store').polls
 
 -- So many turns were taken, and none closed the link. From the first on the pass has the clock's last answer.
-pub record TurnsTaken {S L C : Type 0} (s : Ghosts S) (l : LinkGhosts L) (c : ClockGhosts C) (store store' : S) (desk then : Desk) (link link' : L) (clock clock' : C) (pass pass' : ServerPass) (turns : ℕ) : Type 0 where
-  pub worked : Worked s l c store store' desk then link link' clock clock' pass pass' ended.Spent turns
+pub record TurnsTaken {S L C : Type 0} (s : Ghosts S) (l : LinkGhosts L) (c : ClockGhosts C) (olds news : List (Volume S)) (desk then : Desk) (link link' : L) (clock clock' : C) (pass pass' : ServerPass) (turns : ℕ) : Type 0 where
+  pub worked : Worked s l c olds news desk then link link' clock clock' pass pass' ended.Spent turns
   pub unasked : turns ≡ 0 → c.changes clock' ≡ c.changes clock
   pub last : 1 ≤ turns → c.last clock' ≡ Some pass'.second
 

@@ -1,5 +1,5 @@
 -- The account of a worker: what it took from its link, the events of its holds, and what the link took from it.
-use Rattle.std.specs.Prelude.{◌≡◌, ℕ, List, [], ◌∷◌, map, Option, Some, None}
+use Rattle.std.specs.Prelude.{◌≡◌, ℕ, Bool, false, List, [], ◌∷◌, map, Option, Some, None, cond, nat_eq}
 use Rattle.std.specs.List.{flat_map, filter_map, AllByRecursion}
 use Rattle.files_model.specs.declared.address.Address.{Address}
 use Rattle.files_model.specs.History.{Event, Item, items_of, answers_of}
@@ -33,11 +33,24 @@ pub record Own : Type 0 where
 abbrev pub owned : ℕ → List Event → List Own
 owned volume events = map (λ (event : Event). record { volume = volume; event = event }) events
 
--- whose hold it was
-abbrev pub worker_at : Event → ℕ
-worker_at (Done worker item now reply) = worker
-worker_at (Failing worker items now left) = worker
-worker_at (Cut calls now left) = 0
+-- whose hold it was; what a crash cut is no worker's
+abbrev pub worker_at : Event → Option ℕ
+worker_at (Done worker item now reply) = Some worker
+worker_at (Failing worker items now left) = Some worker
+worker_at (Cut calls now left) = None
+
+abbrev pub is_by : ℕ → Event → Bool
+is_by number (Done worker item now reply) = nat_eq worker number
+is_by number (Failing worker items now left) = nat_eq worker number
+is_by number (Cut calls now left) = false
+
+-- the events of a worker in a history, in their order
+abbrev pub events_by : ℕ → List Event → List Event
+events_by number events = flat_map (λ (event : Event). cond (is_by number event) (event ∷ []) []) events
+
+-- the events of a volume among a worker's own, in their order
+abbrev pub events_on : ℕ → List Own → List Event
+events_on volume own = flat_map (λ (one : Own). cond (nat_eq one.volume volume) (one.event ∷ []) []) own
 
 -- ---- what datagrams ask
 
@@ -100,4 +113,4 @@ pub record Works (volumes number : ℕ) (desk then : Desk) (old new : Worker) (h
   pub offered : List (Address × List ℕ)
   pub mixed : Mixes (flat_map replies_of own) outside offered
   pub sends : Sends old new offered replies
-  pub mine : AllByRecursion (λ (own : Own). worker_at own.event ≡ number) own
+  pub mine : AllByRecursion (λ (own : Own). worker_at own.event ≡ Some number) own

@@ -1,13 +1,14 @@
-//! What a datagram comes to, before anything is sent.
-ghost use Rattle.std.specs.Prelude.{◌≡◌, ◌≤◌, length};
+//! What a datagram came to, before anything is sent.
+ghost use Rattle.std.specs.Prelude.{◌≡◌, ◌≤◌, ◌<◌, length};
+ghost use Rattle.std.specs.List.{AllByRecursion};
 ghost use Rattle.datagrams.specs.Meaning.{meaning};
-ghost use Rattle.nfs_worker.specs.Answers.{Answers, IsFirst, is_halting};
-ghost use Rattle.nfs_worker.specs.Resting.{StaysAtRest};
-ghost use Rattle.volume.specs.Mounted.{store_of};
+ghost use Rattle.nfs_worker.specs.Answers.{Answers, HasRow, is_halting};
+ghost use Rattle.nfs_worker.specs.Turns.{place_of};
+ghost use Rattle.nfs_worker.specs.Volumes.{AreOpen, OneAlone};
 ghost use Rattle.volume.specs.Rests.{Rests};
 
 use crate::cells::Cells;
-use crate::desk::{answer_mount, obey, status};
+use crate::desk::{Desk, answer_mount, obey, status};
 use crate::releasing::Ready;
 use crate::serving::{Served, serve_call};
 use crate::turning::DropCause;
@@ -15,10 +16,9 @@ use datagrams::{Datagram, read_datagram};
 use presto_rpc::write_answer;
 use rig::Address;
 use stable::Tended;
+use std::alloc::Global;
+use volume::Volume;
 use xdr_rpc::{ReplyBytes, ShortReply};
-
-/// How many volumes are served.
-const VOLUMES: u32 = 1;
 
 /// What a datagram came to.
 #[derive(Drop)]
@@ -44,24 +44,50 @@ impl Reaction {
     }
 }
 
-// Answers a datagram that means this, from an address, all at this second.
+/// Who answers a datagram, when, and to whom.
+#[derive(Clone, Copy)]
+pub struct Asked {
+    /// The worker's number.
+    pub number: u32,
+    /// The second of its turn.
+    pub now: u32,
+    /// Where the datagram came from.
+    pub from: Address,
+}
+
+// The volume that a datagram is for, and the first where it is for none.
+fn place_of(datagram: &Datagram) -> u32
+    ensures { result ≡ place_of datagram.now }
+{
+    match datagram {
+        Datagram::Asks { volume, .. }
+        | Datagram::Command { volume, .. }
+        | Datagram::Status { volume, .. } => *volume,
+        Datagram::NoMeaning | Datagram::Outside(_) | Datagram::Mount(_) | Datagram::Halt { .. } =>
+            0,
+    }
+}
+
+// Answers a datagram that means this, on the volume that it is for.
 fn react<S: Tended>(
-    cells: &mut Cells<S>,
-    number: u32,
-    now: u32,
-    from: Address,
+    alloc: Global,
+    volume: &mut Volume<S>,
+    at: u32,
+    desk: &mut Desk,
+    asked: Asked,
     datagram: Datagram,
 ) -> Reaction
-    requires rest { Rests S.Stable cells.old.volume }
-    requires one { cells.old.desk.mounts.volumes ≡ 1 }
-    requires first { IsFirst datagram }
-    ensures rest { StaysAtRest S.Stable cells.old.volume cells.new.volume }
-    ensures answers { Answers S.Stable (store_of cells.old.volume) (store_of cells.new.volume) cells.old.desk cells.new.desk number now from datagram result }
+    requires rest { Rests S.Stable volume.old }
+    requires mounts { length desk.old.roots ≡ desk.old.mounts.volumes }
+    requires puts { at < length desk.old.first_puts }
+    requires row { HasRow datagram }
+    requires place { at ≡ place_of datagram }
+    ensures { Answers S.Stable at volume.old volume.new desk.old desk.new asked.number asked.now asked.from datagram result }
 {
     match datagram {
         Datagram::NoMeaning => Reaction::Dropped(DropCause::NoMeaning),
         Datagram::Outside(reply) => Reaction::Outside(reply),
-        Datagram::Mount(rpc) => match answer_mount(&mut cells.desk, cells.alloc, &rpc) {
+        Datagram::Mount(rpc) => match answer_mount(desk, alloc, &rpc) {
             Ok(reply) => Reaction::Mounted(reply),
             Err(_) => Reaction::Dropped(DropCause::NoMemory),
         },
@@ -69,11 +95,11 @@ fn react<S: Tended>(
             xid,
             volume: _volume,
             command,
-        } => Reaction::Outside(obey(&mut cells.volume, xid, command)),
+        } => Reaction::Outside(obey(volume, xid, command)),
         Datagram::Status {
             xid,
             volume: _volume,
-        } => Reaction::Outside(status(&cells.volume, xid, cells.desk.first_puts)),
+        } => Reaction::Outside(status(volume, xid, desk.first_puts.list()[at as usize])),
         Datagram::Halt { xid } => Reaction::Halt(write_answer(xid, 0, 0)),
         Datagram::Asks {
             xid,
@@ -81,14 +107,15 @@ fn react<S: Tended>(
             cred,
             call,
         } => match serve_call(
-            cells.alloc,
-            &mut cells.volume,
-            number,
+            alloc,
+            volume,
+            at,
+            asked.number,
             xid,
-            from,
+            asked.from,
             &call,
             &cred,
-            now,
+            asked.now,
         ) {
             Served::NoMemory => Reaction::Dropped(DropCause::NoMemory),
             Served::Ready(ready) => Reaction::Ready(ready),
@@ -96,22 +123,25 @@ fn react<S: Tended>(
     }
 }
 
-/// Answers a datagram from an address, all at this second.
-pub fn answer<S: Tended>(
-    cells: &mut Cells<S>,
-    number: u32,
-    now: u32,
-    from: Address,
-    bytes: &[u8],
-) -> Reaction
+/// Answers a datagram on the volume that it is for.
+pub fn answer<S: Tended>(cells: &mut Cells<S>, asked: Asked, bytes: &[u8]) -> Reaction
     requires short { length bytes.now ≤ 9216 }
-    requires rest { Rests S.Stable cells.old.volume }
-    requires one { cells.old.desk.mounts.volumes ≡ 1 }
-    ensures rest { StaysAtRest S.Stable cells.old.volume cells.new.volume }
-    ensures answers { Answers S.Stable (store_of cells.old.volume) (store_of cells.new.volume) cells.old.desk cells.new.desk number now from (meaning bytes.now 1) result }
+    requires rest { AllByRecursion (Rests S.Stable) cells.old.volumes.items }
+    requires desk { AreOpen (length cells.old.volumes.items) cells.old.desk }
+    ensures { let means = meaning bytes.now (length cells.old.volumes.items) in OneAlone (λ old new. Answers S.Stable (place_of means) old new cells.old.desk cells.new.desk asked.number asked.now asked.from means result) (place_of means) cells.old.volumes.items cells.new.volumes.items }
 {
-    match read_datagram(cells.alloc, bytes, VOLUMES) {
-        Ok(datagram) => react(cells, number, now, from, datagram),
+    match read_datagram(cells.alloc, bytes, cells.volumes.len() as u32) {
+        Ok(datagram) => {
+            let at = place_of(&datagram);
+            react(
+                cells.alloc,
+                &mut cells.volumes[at as usize],
+                at,
+                &mut cells.desk,
+                asked,
+                datagram,
+            )
+        }
         Err(_) => Reaction::Dropped(DropCause::NoMemory),
     }
 }

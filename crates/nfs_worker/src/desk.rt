@@ -1,5 +1,5 @@
 //! What is answered outside the history of a volume, and from what.
-ghost use Rattle.std.specs.Prelude.{◌≡◌, ◌∷◌, [], IfOk, OnOk, OnErr};
+ghost use Rattle.std.specs.Prelude.{◌≡◌, ◌≤◌, length, slice_index, IfOk, OnOk, OnErr};
 ghost use Rattle.stable.specs.Looked.{KeepsImage};
 ghost use Rattle.volume.specs.Mounted.{store_of, SameButStore};
 ghost use Rattle.volume.specs.Rests.{Rests};
@@ -7,6 +7,7 @@ ghost use Rattle.mount1.specs.Calls.{reply_to};
 ghost use Rattle.nfs_worker.specs.Desk.{new_desk, after_call, command_reply, status_reply, IsObeyed, change_of};
 
 use files_model::{FileId, NoMemory};
+use lists::Items;
 use mount1::Mounts;
 use presto_rpc::{write_answer, write_status};
 use stable::{Answer, Command, Snapshot, Tended};
@@ -14,36 +15,38 @@ use std::alloc::Global;
 use volume::Volume;
 use xdr_rpc::{ReplyBytes, RpcCall, ShortReply};
 
-/// The list of mounts, the root directory that MNT gives, and how often the store had been put when the workers were opened.
+/// The list of mounts, the root directory of each volume, which MNT gives, and how often each store had been put when the workers were opened.
 #[derive(Drop)]
 pub struct Desk {
     pub mounts: Mounts,
-    pub root: FileId,
-    pub first_puts: u64,
+    pub roots: Items<FileId>,
+    pub first_puts: Items<u64>,
 }
 
 impl Desk {
-    /// A desk with an empty list.
-    pub fn new(alloc: Global, root: FileId, first_puts: u64) -> Result<Desk, NoMemory>
-        ensures { IfOk result (λ desk. desk ≡ new_desk root first_puts) }
+    /// A desk with an empty list, of one to four volumes.
+    pub fn new(alloc: Global, roots: Vec<FileId>, first_puts: Vec<u64>) -> Result<Desk, NoMemory>
+        requires some { 1 ≤ length roots.items }
+        requires few { length roots.items ≤ 4 }
+        ensures { IfOk result (λ desk. desk ≡ new_desk roots.items first_puts.items) }
     {
-        let mounts = Mounts::new(alloc, 1)?;
+        let mounts = Mounts::new(alloc, roots.len() as u32)?;
         Ok(Desk {
             mounts,
-            root,
-            first_puts,
+            roots: Items::new(roots),
+            first_puts: Items::new(first_puts),
         })
     }
 }
 
 /// Answers a call of MOUNT. Where there is no memory the list stays as it was.
 pub fn answer_mount(desk: &mut Desk, alloc: Global, rpc: &RpcCall) -> Result<ReplyBytes, NoMemory>
-    requires one { desk.old.mounts.volumes ≡ 1 }
-    ensures reply { IfOk result (λ reply. reply ≡ reply_to desk.old.mounts (desk.old.root ∷ []) rpc.now) }
+    requires { length desk.old.roots ≡ desk.old.mounts.volumes }
+    ensures reply { IfOk result (λ reply. reply ≡ reply_to desk.old.mounts desk.old.roots rpc.now) }
     ensures rows { OnOk result (desk.new ≡ after_call desk.old rpc.now) }
     ensures err { OnErr result (desk.new ≡ desk.old) }
 {
-    desk.mounts.answer(alloc, rpc, &[desk.root])
+    desk.mounts.answer(alloc, rpc, desk.roots.list())
 }
 
 fn answer_reply(xid: u32, answer: Answer) -> ShortReply

@@ -24,11 +24,12 @@ pub enum Served {
     NoMemory,
 }
 
-/// Serves one call on the volume for a worker, all at this second. The reply's room is reserved before the call is made, and a volume that is hurt is
+/// Serves one call on the volume of this number for a worker, all at this second. The reply's room is reserved before the call is made, and a volume that is hurt is
 /// mended in it.
 pub fn serve_call<S: Tended>(
     alloc: Global,
     volume: &mut Volume<S>,
+    at: u32,
     number: u32,
     xid: u32,
     from: Address,
@@ -39,7 +40,7 @@ pub fn serve_call<S: Tended>(
     requires row { has_row call.now ≡ true }
     requires rest { Rests S.Stable volume.old }
     ensures rest { StaysAtRest S.Stable volume.old volume.new }
-    ensures served { Serves S.Stable (store_of volume.old) (store_of volume.new) number now (record { xid = xid; from = from; call = call.now; cred = cred.now }) result }
+    ensures served { Serves S.Stable at (store_of volume.old) (store_of volume.new) number now (record { xid = xid; from = from; call = call.now; cred = cred.now }) result }
     ensures untended { IsUntended (S.snapshot_of (store_of volume.old)) (S.snapshot_of (store_of volume.new)) }
 {
     let Ok(room) = Room::new(alloc, longest(call)) else {
@@ -47,11 +48,11 @@ pub fn serve_call<S: Tended>(
     };
     match volume.apply(call, cred, now) {
         Outcome::Reply(reply) => Served::Ready(Ready {
-            bytes: write_reply(room, xid, &reply, 0),
+            bytes: write_reply(room, xid, &reply, at),
             to: from,
         }),
         Outcome::Io => Served::Ready(Ready {
-            bytes: write_reply(room, xid, &Reply::Refused(Stat::Io), 0),
+            bytes: write_reply(room, xid, &Reply::Refused(Stat::Io), at),
             to: from,
         }),
         Outcome::NoMemory => Served::NoMemory,

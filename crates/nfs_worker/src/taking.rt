@@ -1,17 +1,17 @@
 //! One turn of a worker.
-ghost use Rattle.std.specs.Prelude.{◌≡◌, ◌+◌, ◌<◌, ◌^◌};
+ghost use Rattle.std.specs.Prelude.{◌≡◌, ◌+◌, ◌<◌, ◌^◌, length};
+ghost use Rattle.std.specs.List.{AllByRecursion};
 ghost use Rattle.nfs_worker.specs.Tending.{is_new};
 ghost use Rattle.nfs_worker.specs.Answers.{Replied, halted_by};
-ghost use Rattle.nfs_worker.specs.Turns.{Turned, TookTurn, IsAsked, answers_in, turn_of, EventTurn};
-ghost use Rattle.nfs_worker.specs.Resting.{StaysAtRest};
-ghost use Rattle.volume.specs.Mounted.{store_of};
+ghost use Rattle.nfs_worker.specs.Turns.{TookEvent, TookTurn, IsAsked, answers_in, turn_of, EventTurn};
+ghost use Rattle.nfs_worker.specs.Volumes.{AreOpen};
 ghost use Rattle.volume.specs.Rests.{Rests};
 
-use crate::answering::{Reaction, answer};
+use crate::answering::{Asked, Reaction, answer};
 use crate::cells::Cells;
 use crate::pass::{Numbers, ServerPass};
 use crate::releasing::{Released, release, send};
-use crate::tending::tend;
+use crate::tending::tend_all;
 use crate::turning::{DropCause, Turn};
 use rig::{Address, Clock, Event, Link, Pauser, Post};
 use stable::Tended;
@@ -72,39 +72,44 @@ fn halted_by(halts: bool, turn: Turn) -> Turn
 // Takes one event, and answers it where it is a datagram that means something, at the pass's second.
 fn take<S: Tended, L: Link>(cells: &mut Cells<S>, link: &mut L, pass: &mut ServerPass) -> Turn
     requires few { pass.old.numbers.received < 2 ^ 48 }
-    requires rest { Rests S.Stable cells.old.volume }
-    requires one { cells.old.desk.mounts.volumes ≡ 1 }
-    ensures rest { StaysAtRest S.Stable cells.old.volume cells.new.volume }
-    ensures turned { let old = store_of cells.old.volume in Turned S.Stable L.Link (S.faults old) (S.snapshot_of old) old (store_of cells.new.volume) cells.old.desk cells.new.desk link.old link.new pass.old pass.new result }
+    requires rest { AllByRecursion (Rests S.Stable) cells.old.volumes.items }
+    requires desk { AreOpen (length cells.old.volumes.items) cells.old.desk }
+    ensures took { TookEvent S.Stable L.Link cells.old.volumes.items cells.new.volumes.items cells.old.desk cells.new.desk link.old link.new pass.old pass.new result }
     ensures second { pass.new.second ≡ pass.old.second }
 {
     let event = link.recv(&mut pass.packet);
     let Event::Datagram(from) = event else {
         return quiet(event);
     };
-    let reaction = answer(cells, pass.number, pass.second, from, pass.packet.bytes());
+    let asked = Asked {
+        number: pass.number,
+        now: pass.second,
+        from,
+    };
+    let reaction = answer(cells, asked, pass.packet.bytes());
     let halts = reaction.is_halting();
     let turn = reply(link, from, reaction);
     pass.numbers = counted(pass.numbers, turn);
     halted_by(halts, turn)
 }
 
-/// Takes one turn: asks the clock, polls the battery where the second is a new one, tries a dirty sector where the store is in error, and then takes one
-/// event, which it answers where it is a datagram that means something.
+/// Takes one turn: asks the clock, polls each battery where the second is a new one, tries a dirty sector of each store in error, and then takes one
+/// event, which it answers where it is a datagram that means something, on the volume that it names.
 pub fn turn<S: Tended, L: Link, C: Clock, P: Pauser>(
     cells: &mut Cells<S>,
     post: &mut Post<L, C, P>,
     pass: &mut ServerPass,
 ) -> Turn
     requires few { pass.old.numbers.received < 2 ^ 48 }
-    requires rest { Rests S.Stable cells.old.volume }
-    requires one { cells.old.desk.mounts.volumes ≡ 1 }
-    ensures rest { StaysAtRest S.Stable cells.old.volume cells.new.volume }
-    ensures took { TookTurn S.Stable L.Link (is_new pass.old.second pass.new.second) (store_of cells.old.volume) (store_of cells.new.volume) cells.old.desk cells.new.desk post.old.link post.new.link pass.old pass.new result }
+    requires rest { AllByRecursion (Rests S.Stable) cells.old.volumes.items }
+    requires desk { AreOpen (length cells.old.volumes.items) cells.old.desk }
+    ensures rest { AllByRecursion (Rests S.Stable) cells.new.volumes.items }
+    ensures desk { AreOpen (length cells.new.volumes.items) cells.new.desk }
+    ensures took { TookTurn S.Stable L.Link (is_new pass.old.second pass.new.second) cells.old.volumes.items cells.new.volumes.items cells.old.desk cells.new.desk post.old.link post.new.link pass.old pass.new result }
     ensures asked { IsAsked C.Clock post.old.clock post.new.clock pass.new.second }
 {
     let second = post.clock.now();
-    tend(&mut cells.volume, second != pass.second);
+    tend_all(&mut cells.volumes, second != pass.second);
     pass.second = second;
     take(cells, &mut post.link, pass)
 }

@@ -1,6 +1,9 @@
 //! What a worker does for the store of a volume before it takes an event.
+ghost use Rattle.std.specs.List.{AllByRecursion};
 ghost use Rattle.stable.specs.Looked.{KeepsImage};
-ghost use Rattle.nfs_worker.specs.Tending.{IsPolledAt, IsTried, IsTended};
+ghost use Rattle.nfs_worker.specs.Tending.{IsPolledAt, IsTried};
+ghost use Rattle.nfs_worker.specs.Turns.{Tends};
+ghost use Rattle.nfs_worker.specs.Volumes.{Pairwise};
 ghost use Rattle.volume.specs.Mounted.{store_of, SameButStore};
 ghost use Rattle.volume.specs.Rests.{Rests};
 
@@ -33,14 +36,21 @@ fn try_in_error<S: Tended>(volume: &mut Volume<S>)
     }
 }
 
-/// Polls the battery at a new second, and then tries the oldest dirty sector where the store is in error. No sector changes by it.
-pub fn tend<S: Tended>(volume: &mut Volume<S>, is_new_second: bool)
+// Polls the battery at a new second, and then tries the oldest dirty sector where the store is in error. No sector changes by it.
+fn tend<S: Tended>(volume: &mut Volume<S>, is_new_second: bool)
     requires rest { Rests S.Stable volume.old }
-    ensures rest { Rests S.Stable volume.new }
-    ensures kept { SameButStore volume.old volume.new }
-    ensures keeps { KeepsImage S.Stable (store_of volume.old) (store_of volume.new) }
-    ensures tended { IsTended is_new_second (S.snapshot_of (store_of volume.old)) (S.snapshot_of (store_of volume.new)) }
+    ensures { Tends S.Stable is_new_second volume.old volume.new }
 {
     poll_at(volume, is_new_second);
     try_in_error(volume);
+}
+
+/// Tends each volume: polls its battery at a new second, and then tries its oldest dirty sector where its store is in error. No sector changes by it.
+pub fn tend_all<S: Tended>(volumes: &mut Vec<Volume<S>>, is_new_second: bool)
+    requires rest { AllByRecursion (Rests S.Stable) volumes.old.items }
+    ensures { Pairwise (Tends S.Stable is_new_second) volumes.old.items volumes.new.items }
+{
+    for at in 0..volumes.len() {
+        tend(&mut volumes[at], is_new_second);
+    }
 }

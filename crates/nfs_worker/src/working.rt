@@ -1,8 +1,8 @@
 //! A worker, turn after turn.
-ghost use Rattle.std.specs.Prelude.{◌≡◌, ◌+◌, ◌<◌, ◌^◌};
+ghost use Rattle.std.specs.Prelude.{◌≡◌, ◌+◌, ◌<◌, ◌^◌, length};
+ghost use Rattle.std.specs.List.{AllByRecursion};
 ghost use Rattle.nfs_worker.specs.Turns.{Worked};
-ghost use Rattle.nfs_worker.specs.Resting.{StaysAtRest};
-ghost use Rattle.volume.specs.Mounted.{store_of};
+ghost use Rattle.nfs_worker.specs.Volumes.{AreOpen};
 ghost use Rattle.volume.specs.Rests.{Rests};
 
 use crate::cells::Cells;
@@ -20,10 +20,9 @@ pub fn work<S: Tended, L: Link, C: Clock, P: Pauser>(
     turns: u64,
 ) -> Ended
     requires few { pass.old.numbers.received + turns < 2 ^ 48 }
-    requires rest { Rests S.Stable cells.old.volume }
-    requires one { cells.old.desk.mounts.volumes ≡ 1 }
-    ensures rest { StaysAtRest S.Stable cells.old.volume cells.new.volume }
-    ensures worked { Worked S.Stable L.Link C.Clock (store_of cells.old.volume) (store_of cells.new.volume) cells.old.desk cells.new.desk post.old.link post.new.link post.old.clock post.new.clock pass.old pass.new result turns }
+    requires rest { AllByRecursion (Rests S.Stable) cells.old.volumes.items }
+    requires desk { AreOpen (length cells.old.volumes.items) cells.old.desk }
+    ensures { Worked S.Stable L.Link C.Clock cells.old.volumes.items cells.new.volumes.items cells.old.desk cells.new.desk post.old.link post.new.link post.old.clock post.new.clock pass.old pass.new result turns }
 {
     for count in 0..turns {
         match turn(cells, post, pass) {

@@ -1,5 +1,7 @@
 //! A run over one rig and one post in memory.
-ghost use Rattle.std.specs.Prelude.{IfSome};
+ghost use Rattle.std.specs.Prelude.{◌≡◌, ◌≤◌, IfSome, length};
+ghost use Rattle.std.specs.List.{AllByRecursion};
+ghost use Rattle.nfs_worker.specs.Volumes.{AreOpen};
 ghost use Rattle.volume.specs.Rests.{Rests};
 
 use crate::serve;
@@ -16,24 +18,72 @@ use volume::Volume;
 
 pub type Host = MemHost<MemRig, StillPauser>;
 
-/// The volume of a rig, if it can be opened, at second 1500.
-pub fn cells(alloc: Global, rig: MemRig) -> Option<Cells<Presto<MemRig>>>
-    ensures { IfSome result (λ cells. Rests ⟦<Presto<MemRig> as Stable>⟧ cells.volume) }
+// The volume of a rig, if it can be opened, at second 1500.
+fn volume_on(alloc: Global, rig: MemRig) -> Option<Volume<Presto<MemRig>>>
+    ensures { IfSome result (λ volume. Rests ⟦<Presto<MemRig> as Stable>⟧ volume) }
 {
     let Ok(opened) = open(alloc, rig, false) else {
         return None;
     };
     match Volume::open(alloc, opened.presto, 1500) {
-        Ok((volume, _repaired)) => open_cells(alloc, volume).ok(),
+        Ok((volume, _repaired)) => Some(volume),
         Err(_) => None,
     }
 }
 
+// The cells of these volumes.
+fn cells_on(alloc: Global, volumes: Vec<Volume<Presto<MemRig>>>) -> Option<Cells<Presto<MemRig>>>
+    requires some { 1 ≤ length volumes.items }
+    requires few { length volumes.items ≤ 4 }
+    requires rest { AllByRecursion (Rests ⟦<Presto<MemRig> as Stable>⟧) volumes.items }
+    ensures rest { IfSome result (λ cells. AllByRecursion (Rests ⟦<Presto<MemRig> as Stable>⟧) cells.volumes.items) }
+    ensures desk { IfSome result (λ cells. AreOpen (length cells.volumes.items) cells.desk) }
+{
+    let Ok(cells) = open_cells(alloc, volumes) else {
+        return None;
+    };
+    Some(cells)
+}
+
+/// The cells of the volume of a rig, if it can be opened.
+pub fn cells(alloc: Global, rig: MemRig) -> Option<Cells<Presto<MemRig>>>
+    ensures rest { IfSome result (λ cells. AllByRecursion (Rests ⟦<Presto<MemRig> as Stable>⟧) cells.volumes.items) }
+    ensures desk { IfSome result (λ cells. AreOpen (length cells.volumes.items) cells.desk) }
+{
+    let volume = volume_on(alloc, rig)?;
+    let Ok(volumes) = Vec::from_array(alloc, [volume]) else {
+        return None;
+    };
+    cells_on(alloc, volumes)
+}
+
+/// The cells of the volumes of two rigs, if they can be opened.
+pub fn cells_of_two(alloc: Global, first: MemRig, second: MemRig) -> Option<Cells<Presto<MemRig>>>
+    ensures rest { IfSome result (λ cells. AllByRecursion (Rests ⟦<Presto<MemRig> as Stable>⟧) cells.volumes.items) }
+    ensures desk { IfSome result (λ cells. AreOpen (length cells.volumes.items) cells.desk) }
+{
+    let first = volume_on(alloc, first)?;
+    let second = volume_on(alloc, second)?;
+    let Ok(volumes) = Vec::from_array(alloc, [first, second]) else {
+        return None;
+    };
+    cells_on(alloc, volumes)
+}
+
+/// The rig of the last volume.
+pub fn last_rig(cells: &mut Cells<Presto<MemRig>>) -> Option<MemRig> {
+    let volume = cells.volumes.pop()?;
+    Some(volume.into_store().into_rig())
+}
+
 /// How many device calls the opening of a rig's volume makes.
 pub fn opening_calls(alloc: Global, rig: MemRig) -> Result<u64, Fail> {
-    match cells(alloc, rig) {
-        Some(cells) => Ok(cells.volume.into_store().into_rig().calls()),
-        None => Err("the volume isn't opened".into()),
+    let Some(mut cells) = cells(alloc, rig) else {
+        return Err("the volume isn't opened".into());
+    };
+    match last_rig(&mut cells) {
+        Some(rig) => Ok(rig.calls()),
+        None => Err("there is no volume".into()),
     }
 }
 
@@ -158,8 +208,8 @@ pub fn has_sent(host: &Host, wanted: &[u8]) -> bool {
     }
 }
 
-// Whether these are datagrams to the client, with these bytes in order.
-fn are_sent(sent: &[SentDatagram], wanted: &[Vec<u8>]) -> bool {
+/// Whether these are datagrams to the client, with these bytes in order.
+pub fn are_sent(sent: &[SentDatagram], wanted: &[Vec<u8>]) -> bool {
     if sent.len() != wanted.len() {
         return false;
     }

@@ -1,11 +1,14 @@
 //! Single turns, and what each says.
+ghost use Rattle.std.specs.Prelude.{length};
+ghost use Rattle.std.specs.List.{AllByRecursion};
+ghost use Rattle.nfs_worker.specs.Volumes.{AreOpen};
 ghost use Rattle.volume.specs.Rests.{Rests};
 
-use crate::tests::outside::{cells, datagram, post};
+use crate::tests::outside::{cells, datagram, last_rig, post};
 use crate::tests::volumes::{is_volume, rig};
 use crate::tests::worked::{CLIENT, worked_write, write_with};
 use nfs_worker::taking::turn;
-use nfs_worker::{Cells, Desk, DropCause, ServerPass, Turn};
+use nfs_worker::{Cells, DropCause, ServerPass, Turn};
 use presto_unit::Presto;
 use rig::{Address, Event, Failed, Link, Packet, Post};
 use rig_mem::{MemClock, MemEvent, MemRig, StillPauser};
@@ -13,20 +16,18 @@ use stable::Stable;
 use std::test::Fail;
 use volume_mem::{FRESH, WRITTEN};
 
-/// Takes a turn with a new desk. Whether it is this one.
+/// Takes a turn. Whether it is this one.
 pub fn is_next<L: Link>(
     cells: &mut Cells<Presto<MemRig>>,
     post: &mut Post<L, MemClock, StillPauser>,
     pass: &mut ServerPass,
     wanted: Turn,
 ) -> bool
-    requires { Rests ⟦<Presto<MemRig> as Stable>⟧ cells.old.volume }
-    ensures { Rests ⟦<Presto<MemRig> as Stable>⟧ cells.new.volume }
+    requires rest { AllByRecursion (Rests ⟦<Presto<MemRig> as Stable>⟧) cells.old.volumes.items }
+    requires desk { AreOpen (length cells.old.volumes.items) cells.old.desk }
+    ensures rest { AllByRecursion (Rests ⟦<Presto<MemRig> as Stable>⟧) cells.new.volumes.items }
+    ensures desk { AreOpen (length cells.new.volumes.items) cells.new.desk }
 {
-    let Ok(desk) = Desk::new(cells.alloc, cells.volume.root(), 0) else {
-        return false;
-    };
-    cells.desk = desk;
     pass.numbers.received < 6 && turn(cells, post, pass) == wanted
 }
 
@@ -112,6 +113,9 @@ fn what_is_not_sent_is_done(rt: HostRuntime) -> Result<(), Fail> {
         ),
         (1, 0, 1)
     );
-    assert!(rt; is_volume(alloc, &cells.volume.into_store().into_rig(), WRITTEN)?);
+    let Some(rig) = last_rig(&mut cells) else {
+        panic!(rt; "there is no volume");
+    };
+    assert!(rt; is_volume(alloc, &rig, WRITTEN)?);
     Ok(())
 }

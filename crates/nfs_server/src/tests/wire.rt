@@ -12,10 +12,11 @@ use std::alloc::Global;
 use std::test::Fail;
 use volume_mem::FRESH;
 
-// The words of a datagram, and those of its reply; none where nothing is sent.
-type Row = (&'static [u32], &'static [u32]);
+/// The words of a datagram, and those of its reply; none where nothing is sent.
+pub type Row = (&'static [u32], &'static [u32]);
 
-fn bytes_of(alloc: Global, words: &[u32]) -> Result<Vec<u8>, Fail> {
+/// These words as bytes.
+pub fn bytes_of(alloc: Global, words: &[u32]) -> Result<Vec<u8>, Fail> {
     let mut bytes = Vec::new(alloc);
     add_words(&mut bytes, words)?;
     Ok(bytes)

@@ -35,7 +35,7 @@ returns-in-Err g c =
         kept = kept_refused r g.met.R.Rig.clocked c.args.options.accept_loss c.in-Err.fault refused;
         found = found;
         workers = tt;
-        shared = refl;
+        shared = (record { lists = tt; whole = tt }, tt);
         polled = tt;
         ends = tt;
         had_rig = refl;

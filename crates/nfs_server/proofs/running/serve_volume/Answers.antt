@@ -32,7 +32,7 @@ returns-in-Err g c =
           loan = loan_none (told.same.posts.left ∙ asked.posts.left) (told.same.posts.back ∙ asked.posts.back);
           grows = grew_opened s g.met.S.Stable.clocked opening.cause.later opening.crash opening.opens;
           workers = tt;
-          shared = refl;
+          shared = (record { lists = tt; whole = tt }, tt);
           polled = tt;
           ends = tt;
           had_rig = refl;
