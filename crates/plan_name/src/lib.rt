@@ -3,8 +3,8 @@
 
 mod creating_puts;
 mod growth;
-mod judging_removal;
 mod judging;
+mod judging_removal;
 mod making;
 mod names;
 mod new_in_place;
@@ -21,9 +21,9 @@ pub use making::{Spot, make_in_place};
 pub use names::{create_refusal, entry_refusal, name_refusal, standing_refusal};
 pub use new_in_place::{PlannedNew, plan_new_in_place};
 pub use new_node::new_file;
-pub use removing_puts::{Taking, add_removal};
 pub use planned::{Freed, Planned};
 pub use removing::plan_remove;
+pub use removing_puts::{Taking, add_removal};
 pub use standing::plan_standing;
 
 #[cfg(test)]

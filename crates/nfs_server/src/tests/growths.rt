@@ -321,6 +321,9 @@ fn a_hurt_volume_keeps_its_files_whatever_fails_or_is_cut_while_it_is_mended(
         panic!(rt; "no rig came back");
     };
     assert!(rt; status == 0 && is_mended(alloc, &rig)?);
-    assert_eq!(rt; broken_mend(alloc, opening.saturating_add(6), rig.calls())?, None);
+    assert_eq!(rt;
+        broken_mend(alloc, opening.saturating_add(6), rig.calls())?,
+        None
+    );
     Ok(())
 }
