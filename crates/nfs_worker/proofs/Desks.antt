@@ -1,5 +1,5 @@
 -- What is answered outside any history, over one run after another.
-use Rattle.std.proofs.Common.{◌≡◌, ◌≤◌, ℕ, List, [], ◌∷◌, ◌++◌, length, map, None, ap, ◌∙◌, sym, refl, subst}
+use Rattle.std.proofs.Common.{◌≡◌, ◌≤◌, ℕ, List, [], ◌∷◌, ◌++◌, length, map, None, ap, sym, refl, subst}
 use Rattle.std.proofs.lemmas.List.{length-map}
 use Rattle.files_model.specs.declared.address.Address.{Address}
 use Rattle.files_model.specs.declared.attributes.FileId.{FileId}

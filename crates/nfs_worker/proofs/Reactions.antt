@@ -1,10 +1,8 @@
 -- One datagram, by what it came to and by what became of the reply.
-use Rattle.std.proofs.Common.{arith, ◌≡◌, ◌≢◌, ℕ, ◌+◌, ◌≤◌, List, [], ◌∷◌, ◌++◌, map, length, Option, Some, None, refl, sym, ap, ◌∙◌, subst}
+use Rattle.std.proofs.Common.{arith, ◌≡◌, ℕ, ◌+◌, List, [], ◌∷◌, ◌++◌, map, length, Option, Some, None, refl, sym, ap, ◌∙◌, subst}
 use Rattle.std.specs.List.{filter_map, AllByRecursion}
 use Rattle.files_model.specs.declared.address.Address.{Address}
-use Rattle.files_model.specs.declared.call.Call.{Call}
-use Rattle.files_model.specs.declared.credential.Cred.{Cred}
-use Rattle.files_model.specs.History.{Event, Item, items_of, time_of}
+use Rattle.files_model.specs.History.{Event, Item, items_of}
 use Rattle.stable.specs.declared.store.Stable.{Ghosts}
 use Rattle.rig.specs.Links.{gains, Takes}
 use Rattle.rig.specs.Links.Heard.{Datagram}
@@ -13,8 +11,7 @@ use Rattle.rig.specs.declared.link.Link.{Ghosts as LinkGhosts}
 use Rattle.datagrams.specs.declared.datagram.Datagram.{Datagram as Meaning}
 use Rattle.datagrams.specs.declared.datagram.Datagram.TheVariants.{NoMeaning, Outside, Asks, Mount, Command, Status, Halt}
 use Rattle.datagrams.specs.Meaning.{meaning}
-use Rattle.nfs_worker.specs.Account.{Hold, Grew, history}
-use Rattle.rig.specs.Offers.{LeavesOut}
+use Rattle.nfs_worker.specs.Account.{history}
 use Rattle.nfs_worker.specs.Answers.{Answers, Comes, IsOwn, Replied, is_halting, halted_by}
 use Rattle.volume.specs.Mounted.{store_of}
 use Rattle.volume.specs.declared.mounted.Volume.{Volume}
@@ -24,7 +21,7 @@ use Rattle.nfs_worker.specs.declared.desk.Desk.{Desk}
 use Rattle.nfs_worker.proofs.Desks.{tells_none, does_told}
 use Rattle.nfs_worker.specs.Served.{Releases}
 use Rattle.nfs_worker.specs.Turns.{Says, Reacts, Turned, turn_of, answers_in, IsHalt, IsAnswered, DoesBy, Obeys}
-use Rattle.nfs_worker.specs.Worker.{worker_at, worker_of, Own, Request, owned, request_of, replies_of, Sends, Works}
+use Rattle.nfs_worker.specs.Worker.{worker_at, worker_of, Request, owned, request_of, Sends, Works}
 use Rattle.nfs_worker.specs.declared.answering.Reaction.{Reaction}
 use Rattle.nfs_worker.specs.declared.answering.Reaction.TheVariants as reaction
 use Rattle.nfs_worker.specs.declared.pass.ServerPass.{ServerPass}

@@ -1,5 +1,5 @@
 -- One turn, by what was heard and what came of it.
-use Rattle.std.proofs.Common.{arith, ◌≡◌, ◌≢◌, ℕ, Bool, ◌+◌, ◌-◌, ◌≤◌, List, [], ◌∷◌, ◌++◌, length, Option, Some, refl, sym, ap, ◌∙◌, subst, append-nil, length-append, ◌<◌}
+use Rattle.std.proofs.Common.{arith, ◌≡◌, ◌≢◌, ℕ, Bool, ◌+◌, ◌-◌, ◌≤◌, List, [], ◌∷◌, ◌++◌, length, Some, refl, sym, ap, ◌∙◌, subst, append-nil, length-append, ◌<◌}
 use Rattle.files_model.specs.declared.address.Address.{Address}
 use Rattle.files_model.specs.History.{Event as Done, Item, items_of}
 use Rattle.std.specs.List.{AllByRecursion}
@@ -23,11 +23,11 @@ use Rattle.nfs_worker.specs.Account.{Hold, history, Grew}
 use Rattle.nfs_worker.specs.Tending.{is_new, polls_after}
 use Rattle.nfs_worker.specs.Resting.{StaysAtRest}
 use Rattle.nfs_worker.specs.Turns.{Says, EventTurn, Counts, Turned, TookEvent, TookTurn, Tends, Went, IsAsked, TurnsTaken, Worked, EndsBy, place_in, datagrams}
-use Rattle.nfs_worker.specs.Volumes.{AreOpen, EachVolume, OneAlone}
+use Rattle.nfs_worker.specs.Volumes.{AreOpen, EachVolume}
 use Rattle.volume.specs.Mounted.{store_of}
 use Rattle.volume.specs.Rests.{Rests}
 use Rattle.volume.specs.declared.mounted.Volume.{Volume}
-use Rattle.nfs_worker.specs.Worker.{worker_at, worker_of, Worker, Own, Request, Mixes, owned, events_on, Sends, Works, request_of, replies_of}
+use Rattle.nfs_worker.specs.Worker.{worker_at, worker_of, Worker, Own, Mixes, owned, events_on, Sends, Works, request_of, replies_of}
 use Rattle.nfs_worker.specs.Worker.Mixes.{neither}
 use Rattle.nfs_worker.specs.declared.pass.Numbers.{Numbers}
 use Rattle.nfs_worker.specs.declared.pass.ServerPass.{ServerPass}

@@ -13,7 +13,6 @@ use Rattle.rig.specs.declared.link.Event.TheVariants as event
 use Rattle.rig.specs.declared.link.Link.{Ghosts as LinkGhosts}
 use Rattle.rig.specs.Links.Heard.{Datagram, Idle, Closed, Failed}
 use Rattle.rig.specs.Offers.{LeavesOut}
-use Rattle.stable.specs.declared.snapshot.Snapshot.{Snapshot}
 use Rattle.datagrams.specs.declared.datagram.Datagram.{Datagram as Meaning}
 use Rattle.datagrams.specs.declared.datagram.Datagram.TheVariants.{NoMeaning, Outside, Asks, Mount, Command, Status, Halt}
 use Rattle.datagrams.specs.Meaning.{meaning}

@@ -1,6 +1,6 @@
 use Rattle.std.proofs.Common.{◌≡◌, ℕ, List, slice_index_or, refl, sym, ap, ◌∙◌, subst, [], ◌∷◌}
 use Rattle.datagrams.specs.declared.datagram.Datagram.{Datagram as Meaning}
-use Rattle.datagrams.specs.declared.datagram.Datagram.TheVariants.{Asks, Command, Status}
+use Rattle.datagrams.specs.declared.datagram.Datagram.TheVariants.{Asks}
 use Rattle.volume.specs.Mounted.{store_of}
 use Rattle.nfs_worker.specs.Answers.{HasRow}
 use Rattle.std.specs.Prelude.{slice_index}

@@ -1,6 +1,5 @@
-use Rattle.std.proofs.Common.{◌≡◌, List, ℕ, length, refl, ap, ◌∙◌, subst, arith}
+use Rattle.std.proofs.Common.{List, ℕ, length, refl, ap, ◌∙◌, subst, arith}
 use Rattle.datagrams.specs.Meaning.{meaning}
-use Rattle.rig.specs.declared.link.Event.TheVariants as event
 use Rattle.volume.specs.Mounted.{store_of}
 use Rattle.volume.specs.Rests.{Rests}
 use Rattle.nfs_worker.specs.Answers.{Answers, halted_by}
@@ -9,7 +8,7 @@ use Rattle.nfs_worker.specs.Volumes.{OneAlone}
 use Rattle.nfs_worker.proofs.Accounts.{grew_none}
 use Rattle.nfs_worker.proofs.Places.{alone_still, all_at}
 use Rattle.nfs_worker.proofs.Reactions.{turned_replied}
-use Rattle.nfs_worker.proofs.Turns.{IsTaken, turned_quiet}
+use Rattle.nfs_worker.proofs.Turns.{turned_quiet}
 use Rattle.nfs_worker.proofs.taking.take.Goals as goal
 
 pub returns-in_default : goal.returns-in_default

@@ -1,4 +1,4 @@
-use Rattle.std.proofs.Common.{◌≡◌, ℕ, length, refl, sym, subst}
+use Rattle.std.proofs.Common.{ℕ, refl, sym, subst}
 use Rattle.nfs_worker.specs.Tending.{is_new}
 use Rattle.nfs_worker.specs.Turns.{Tends, TookTurn, IsAsked}
 use Rattle.nfs_worker.specs.Volumes.{AreOpen, Pairwise}
