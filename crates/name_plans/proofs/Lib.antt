@@ -8,3 +8,12 @@ pub mod RemovingAccepted
 pub mod RemovingPlan
 pub mod RemovingSets
 pub mod CreatingStanding
+pub mod NamedSlots
+pub mod RmdirAccepted
+pub mod RmdirPlan
+pub mod RmdirSets
+pub mod StayingSets
+pub mod LinkAccepted
+pub mod LinkFirst
+pub mod LinkInPlace
+pub mod LinkAtEnd

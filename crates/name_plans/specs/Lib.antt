@@ -5,3 +5,5 @@ pub mod Taken
 pub mod Removing
 pub mod Removed
 pub mod Standing
+pub mod RemovingDirectory
+pub mod Linking

@@ -2,11 +2,17 @@
 #![tactic(auto)]
 
 mod creating;
+mod linking;
 mod removing;
+mod removing_directories;
 
 pub use creating::{
     a_create_of_a_standing_file_sets_its_size, a_creation_at_the_end_is_planned,
     a_creation_in_place_is_planned, a_creation_with_new_blocks_is_planned,
     an_accepted_create_makes_a_file, the_sets_follow_a_creation,
 };
+pub use linking::{a_link_at_the_end_is_planned, a_link_in_place_is_planned};
 pub use removing::{a_removal_is_planned, the_sets_follow_a_removal};
+pub use removing_directories::{
+    a_removal_of_a_directory_is_planned, the_sets_follow_a_removal_of_a_directory,
+};
