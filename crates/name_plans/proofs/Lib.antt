@@ -17,3 +17,11 @@ pub mod LinkAccepted
 pub mod LinkFirst
 pub mod LinkInPlace
 pub mod LinkAtEnd
+pub mod MkdirAccepted
+pub mod MkdirFirst
+pub mod MkdirInPlace
+pub mod MkdirAtEnd
+pub mod MkdirQuiet
+pub mod MkdirSets
+pub mod ReplaceAccepted
+pub mod ReplacePlan

@@ -7,3 +7,5 @@ pub mod Removed
 pub mod Standing
 pub mod RemovingDirectory
 pub mod Linking
+pub mod MakingDirectory
+pub mod Replacement

@@ -3,8 +3,10 @@
 
 mod creating;
 mod linking;
+mod making_directories;
 mod removing;
 mod removing_directories;
+mod renaming;
 
 pub use creating::{
     a_create_of_a_standing_file_sets_its_size, a_creation_at_the_end_is_planned,
@@ -12,7 +14,11 @@ pub use creating::{
     an_accepted_create_makes_a_file, the_sets_follow_a_creation,
 };
 pub use linking::{a_link_at_the_end_is_planned, a_link_in_place_is_planned};
+pub use making_directories::{
+    a_new_directory_at_the_end_is_planned, a_new_directory_in_place_is_planned,
+};
 pub use removing::{a_removal_is_planned, the_sets_follow_a_removal};
 pub use removing_directories::{
     a_removal_of_a_directory_is_planned, the_sets_follow_a_removal_of_a_directory,
 };
+pub use renaming::a_replacement_is_planned;

@@ -1,0 +1,33 @@
+// What plans of renames leave of an image.
+
+ghost use Rattle.std.specs.Prelude.{◌≡◌, ℕ, Bool, List, [], ◌∷◌, ◌==◌};
+ghost use Rattle.files_model.specs.Files.{Node};
+ghost use Rattle.files_model.specs.declared.attributes.FileId.{FileId};
+ghost use Rattle.files_model.specs.declared.call.Call.TheVariants.{Rename};
+ghost use Rattle.files_model.specs.declared.credential.Cred.{Cred};
+ghost use Rattle.name_plans.specs.Removed.{AreFreed, frees_number, number_given};
+ghost use Rattle.name_plans.specs.Replacement.{Finishes, IsReplacement, MovesSlots, moved_slots, replacing_puts};
+ghost use Rattle.stable.specs.Puts.{put_all};
+ghost use Rattle.stable.specs.Store.{Image};
+ghost use Rattle.v7_map.specs.Frame.{frame};
+ghost use Rattle.v7_map.specs.Plans.{IsPlanOf};
+ghost use Rattle.v7_map.specs.View.{view};
+ghost use Rattle.v7_map.specs.Weak.{IsStrong};
+ghost use Rattle.v7_sets.specs.Given.{given};
+ghost use Rattle.v7_sets.specs.Sets.{AreSetsOf};
+ghost use Rattle.v7_strokes.specs.Freed.{IsFreed};
+
+/// An accepted RENAME (RFC 1094 2.2.12) onto a name that stands, in one directory or in another one: the new slot's sector, the old slot's, then the
+/// inodes of the directories with their times and that of the replaced node, which ends with its last name, in any order. A crash leaves the files before
+/// the call, or both names of the moved node, or the files after it, but for times. Afterwards each block stands where it stood, but those of a node that
+/// ended stand nowhere.
+pub fn a_replacement_is_planned()
+    ensures planned { (image : Image) (from to : FileId) (name new_name : List ℕ) (cred : Cred) (now i r k l : ℕ) (n w dp dq : Node) (b1 b2 : List ℕ) (before after : List ℕ) (bs cs : List (List ℕ)) (b : List ℕ)
+        → IsStrong (frame image) → IsReplacement (view image) from to name new_name cred now i r k l n w dp dq
+        → MovesSlots image from.ino to.ino k l i new_name b1 b2 → Finishes (moved_slots image from.ino to.ino k l b1 b2) now from.ino to.ino r w before after bs cs b
+        → IsPlanOf image ((Rename from name to new_name, cred) ∷ []) now (replacing_puts image from.ino to.ino k l r b1 b2 before after bs cs b) }
+    ensures freed { (image : Image) (from to : FileId) (name new_name : List ℕ) (cred : Cred) (now i r k l : ℕ) (n w dp dq : Node) (b1 b2 : List ℕ) (before after : List ℕ) (bs cs : List (List ℕ)) (b : List ℕ)
+        → IsStrong (frame image) → IsReplacement (view image) from to name new_name cred now i r k l n w dp dq
+        → MovesSlots image from.ino to.ino k l i new_name b1 b2 → Finishes (moved_slots image from.ino to.ino k l b1 b2) now from.ino to.ino r w before after bs cs b
+        → IsFreed (w.nlink == 1) r (frame image) (frame (put_all (replacing_puts image from.ino to.ino k l r b1 b2 before after bs cs b) image)) }
+{}
