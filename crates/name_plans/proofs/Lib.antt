@@ -25,3 +25,6 @@ pub mod MkdirQuiet
 pub mod MkdirSets
 pub mod ReplaceAccepted
 pub mod ReplacePlan
+pub mod RenameTorn
+pub mod MoveAccepted
+pub mod MovePlan

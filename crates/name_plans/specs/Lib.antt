@@ -9,3 +9,4 @@ pub mod RemovingDirectory
 pub mod Linking
 pub mod MakingDirectory
 pub mod Replacement
+pub mod Moving

@@ -5,6 +5,7 @@ ghost use Rattle.files_model.specs.Files.{Node};
 ghost use Rattle.files_model.specs.declared.attributes.FileId.{FileId};
 ghost use Rattle.files_model.specs.declared.call.Call.TheVariants.{Rename};
 ghost use Rattle.files_model.specs.declared.credential.Cred.{Cred};
+ghost use Rattle.name_plans.specs.Moving.{IsMoving, MovesInPlace, moving_puts};
 ghost use Rattle.name_plans.specs.Removed.{AreFreed, frees_number, number_given};
 ghost use Rattle.name_plans.specs.Replacement.{Finishes, IsReplacement, MovesSlots, moved_slots, replacing_puts};
 ghost use Rattle.stable.specs.Puts.{put_all};
@@ -30,4 +31,15 @@ pub fn a_replacement_is_planned()
         → IsStrong (frame image) → IsReplacement (view image) from to name new_name cred now i r k l n w dp dq
         → MovesSlots image from.ino to.ino k l i new_name b1 b2 → Finishes (moved_slots image from.ino to.ino k l b1 b2) now from.ino to.ino r w before after bs cs b
         → IsFreed (w.nlink == 1) r (frame image) (frame (put_all (replacing_puts image from.ino to.ino k l r b1 b2 before after bs cs b) image)) }
+{}
+
+/// An accepted RENAME of what is no directory into an empty slot of another directory: the new slot's sector, the old slot's, then the inodes of the two
+/// directories with their times, in either order. A crash leaves the files before the call, or both names, or the files after it, but for times.
+pub fn a_move_in_place_is_planned()
+    ensures old_first { (image : Image) (from to : FileId) (name new_name : List ℕ) (cred : Cred) (now i k : ℕ) (n dp dq : Node) (b1 b2 b3 b4 : List ℕ)
+        → IsStrong (frame image) → IsMoving (view image) from to name new_name cred now i k n dp dq → MovesInPlace image now from.ino to.ino k i new_name dq b1 b2 from.ino to.ino b3 b4
+        → IsPlanOf image ((Rename from name to new_name, cred) ∷ []) now (moving_puts image from.ino to.ino k dq b1 b2 from.ino to.ino b3 b4) }
+    ensures new_first { (image : Image) (from to : FileId) (name new_name : List ℕ) (cred : Cred) (now i k : ℕ) (n dp dq : Node) (b1 b2 b3 b4 : List ℕ)
+        → IsStrong (frame image) → IsMoving (view image) from to name new_name cred now i k n dp dq → MovesInPlace image now from.ino to.ino k i new_name dq b1 b2 to.ino from.ino b3 b4
+        → IsPlanOf image ((Rename from name to new_name, cred) ∷ []) now (moving_puts image from.ino to.ino k dq b1 b2 to.ino from.ino b3 b4) }
 {}
