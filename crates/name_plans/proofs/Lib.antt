@@ -28,3 +28,4 @@ pub mod ReplacePlan
 pub mod RenameTorn
 pub mod MoveAccepted
 pub mod MovePlan
+pub mod MoveAtEnd

@@ -1,6 +1,6 @@
 -- What the step of an accepted RENAME into another directory is, and what is known of its slots and nodes.
 use Rattle.std.proofs.Common.{◌≡◌, ◌≢◌, ℕ, ◌+◌, ◌<◌, ◌≤◌, Bool, true, false, cond, not, ◌&&◌, ◌||◌, ◌==◌, if◌then◌else◌, List, [], ◌∷◌, ◌++◌, length, get_or, set, Option, Some, None, refl, sym, ap, subst, ◌∙◌, arith, ltb, eq-eqb, unwrap_or}
-use Rattle.std.proofs.lemmas.Bool.{ne_eqb}
+use Rattle.std.proofs.lemmas.Bool.{ne_eqb, le-ltb}
 use Rattle.std.specs.FinMap.{get}
 use Rattle.std.specs.List.{position}
 use Rattle.std.specs.Option.{option_map}
@@ -83,6 +83,27 @@ pub record IsMove (files : Files) (from to : FileId) (name new_name : List ℕ) 
   pub bound : n.nlink + 1 ≤ 65535
   pub after : after_calls files ((call.Rename from name to new_name, cred) ∷ []) now
       ≡ with_node (with_node files to.ino (record dq { slots = set dq.slots l (Some (i, new_name)); mtime = now; ctime = now })) from.ino (record dp { slots = set dp.slots k None; mtime = now; ctime = now })
+
+-- a directory with one slot more at its end
+abbrev pub longer_by : Node → ℕ → List ℕ → ℕ → Node
+longer_by d i name now = record d { slots = d.slots ++ Some (i, name) ∷ []; size = d.size + 16; mtime = now; ctime = now }
+
+-- Slot k of the one directory, which names file i, is emptied, and the other one, which gets longer, names it at its end.
+pub record IsMoveAtEnd (files : Files) (from to : FileId) (name new_name : List ℕ) (cred : Cred) (now i k : ℕ) (n dp dq : Node) : Type 0 where
+  pub at_from : get files.nodes from.ino ≡ Some dp
+  pub at_to : get files.nodes to.ino ≡ Some dq
+  pub at_file : get files.nodes i ≡ Some n
+  pub from_kind : is_directory dp.kind ≡ true
+  pub to_kind : is_directory dq.kind ≡ true
+  pub file : is_directory n.kind ≡ false
+  pub apart : to.ino ≢ from.ino
+  pub old_slot : get_or dp.slots k None ≡ Some (i, name)
+  pub old_inside : k < length dp.slots
+  pub old_past : 2 ≤ k
+  pub good_name : new_name ≢ []
+  pub bound : n.nlink + 1 ≤ 65535
+  pub after : after_calls files ((call.Rename from name to new_name, cred) ∷ []) now
+      ≡ with_node (with_node files to.ino (longer_by dq i new_name now)) from.ino (record dp { slots = set dp.slots k None; mtime = now; ctime = now })
 
 clash : {b : Bool} → b ≡ true → b ≡ false → ⊥
 clash {b = b} x y = cc
@@ -178,4 +199,24 @@ module _ (image : Image) (from to : FileId) (name new_name : List ℕ) (cred : C
     after = ap (λ r. r.1) (rename-step (view image) from to name new_name cred now i k n dp dq c nz at_p)
         ∙ ap (λ t. with_node (with_node (view image) to.ino (cond t (record dq { slots = set dq.slots (place_for dq.slots) (Some (i, new_name)); mtime = now; ctime = now }) (record dq { slots = dq.slots ++ Some (i, new_name) ∷ []; size = dq.size + 16; mtime = now; ctime = now }))) from.ino (without_entry dp k now))
         (lt_ltb (place_for dq.slots) (length dq.slots) inside);
+  }
+
+  pub rename-move_at_end : length dq.slots ≤ place_for dq.slots → IsMoveAtEnd (view image) from to name new_name cred now i k n dp dq
+  unfolding with_entry
+  rename-move_at_end full = record {
+    at_from = at_p;
+    at_to = at_q;
+    at_file = c.node;
+    from_kind = kind_p;
+    to_kind = kind_q;
+    file = file;
+    apart = c.apart;
+    old_slot = old.1;
+    old_inside = old.0;
+    old_past = old_past;
+    good_name = good-name new_name good.3;
+    bound = bound;
+    after = ap (λ r. r.1) (rename-step (view image) from to name new_name cred now i k n dp dq c nz at_p)
+        ∙ ap (λ t. with_node (with_node (view image) to.ino (cond t (record dq { slots = set dq.slots (place_for dq.slots) (Some (i, new_name)); mtime = now; ctime = now }) (record dq { slots = dq.slots ++ Some (i, new_name) ∷ []; size = dq.size + 16; mtime = now; ctime = now }))) from.ino (without_entry dp k now))
+        (le-ltb (place_for dq.slots) (length dq.slots) full);
   }

@@ -1,5 +1,5 @@
 -- When RENAME moves a name into another directory, where its new name is free, and the puts of it.
-use Rattle.std.specs.Prelude.{◌≡◌, ◌≢◌, ℕ, ◌<◌, List, [], ◌∷◌, ◌++◌, length, Some, None, not}
+use Rattle.std.specs.Prelude.{◌≡◌, ◌≢◌, ℕ, ◌<◌, ◌≤◌, List, [], ◌∷◌, ◌++◌, length, Some, None, not}
 use Rattle.std.specs.List.{position}
 use Rattle.std.specs.FinMap.{get}
 use Rattle.files_model.specs.declared.attributes.FileId.{FileId}
@@ -10,12 +10,16 @@ use Rattle.files_model.specs.Files.{Node, Files, live}
 use Rattle.files_model.specs.NameRows.{rename_tests}
 use Rattle.files_model.specs.Names.{name_tests, has_name, number_at, place_for}
 use Rattle.files_model.specs.Permission.{is_directory}
+use Rattle.stable.specs.Puts.{put_all}
 use Rattle.stable.specs.Store.{Image}
-use Rattle.v7_map.specs.Image.{inode_at}
+use Rattle.v7_layout.specs.declared.inode.Inode.{Inode}
+use Rattle.v7_map.specs.Image.{sector_at, inode_at}
 use Rattle.v7_map.specs.Plan.{PutsInode}
+use Rattle.v7_plans.specs.Quiet.{AllMuted}
 use Rattle.v7_plans.specs.Setting.{put_inode}
 use Rattle.v7_strokes.specs.Entries.{entry_sector, inode_put, put_entry}
 use Rattle.v7_strokes.specs.Inodes.{timed_inode}
+use Rattle.v7_strokes.specs.Slots.{PutsSlot, GrowsBy}
 use Rattle.name_plans.specs.Replacement.{MovesSlots, moved_slots}
 
 -- RENAME takes slot k of dp, which names node i, away, and makes a new entry of dq, another directory, for it
@@ -45,3 +49,13 @@ pub record MovesInPlace (image : Image) (now from to k i : ℕ) (new_name : List
 abbrev pub moving_puts : Image → ℕ → ℕ → ℕ → Node → List ℕ → List ℕ → ℕ → ℕ → List ℕ → List ℕ → List (ℕ × List ℕ)
 moving_puts image from to k dq b1 b2 p q b3 b4 =
     (entry_sector image to (place_for dq.slots), b1) ∷ (entry_sector (put_entry image to (place_for dq.slots) b1) from k, b2) ∷ inode_put p b3 ∷ inode_put q b4 ∷ []
+
+-- The new entry makes the other directory longer: puts that don't show yet, that directory's inode, the old slot, the times of the directory of the old name.
+pub record MovesAtEnd (image : Image) (now from to : ℕ) (new_name : List ℕ) (dq : Node) (k i : ℕ) (g : Inode) (b1 b2 b3 : List ℕ) (inner : List (ℕ × List ℕ)) : Type 0 where
+  pub full : length dq.slots ≤ place_for dq.slots
+  pub muted : AllMuted to inner image
+  pub grows : GrowsBy (put_all inner image) to (length dq.slots) g (Some (i, new_name))
+  pub times : g ≡ record (inode_at (put_all inner image) to) { size = g.size; direct = g.direct; single = g.single; mtime = now; ctime = now }
+  pub directory : PutsInode (put_all inner image) to b1 g
+  pub old : PutsSlot (sector_at (put_inode (put_all inner image) to b1) (entry_sector (put_inode (put_all inner image) to b1) from k)) k b2 None
+  pub last : PutsInode (put_entry (put_inode (put_all inner image) to b1) from k b2) from b3 (timed_inode (inode_at (put_entry (put_inode (put_all inner image) to b1) from k b2) from) now)

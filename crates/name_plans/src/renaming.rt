@@ -1,21 +1,24 @@
 // What plans of renames leave of an image.
 
-ghost use Rattle.std.specs.Prelude.{◌≡◌, ℕ, Bool, List, [], ◌∷◌, ◌==◌};
+ghost use Rattle.std.specs.Prelude.{◌≡◌, ℕ, Bool, List, [], ◌∷◌, ◌++◌, ◌==◌};
 ghost use Rattle.files_model.specs.Files.{Node};
 ghost use Rattle.files_model.specs.declared.attributes.FileId.{FileId};
 ghost use Rattle.files_model.specs.declared.call.Call.TheVariants.{Rename};
 ghost use Rattle.files_model.specs.declared.credential.Cred.{Cred};
-ghost use Rattle.name_plans.specs.Moving.{IsMoving, MovesInPlace, moving_puts};
+ghost use Rattle.name_plans.specs.Moving.{IsMoving, MovesAtEnd, MovesInPlace, moving_puts};
 ghost use Rattle.name_plans.specs.Removed.{AreFreed, frees_number, number_given};
 ghost use Rattle.name_plans.specs.Replacement.{Finishes, IsReplacement, MovesSlots, moved_slots, replacing_puts};
 ghost use Rattle.stable.specs.Puts.{put_all};
 ghost use Rattle.stable.specs.Store.{Image};
+ghost use Rattle.v7_layout.specs.declared.inode.Inode.{Inode};
 ghost use Rattle.v7_map.specs.Frame.{frame};
 ghost use Rattle.v7_map.specs.Plans.{IsPlanOf};
 ghost use Rattle.v7_map.specs.View.{view};
 ghost use Rattle.v7_map.specs.Weak.{IsStrong};
 ghost use Rattle.v7_sets.specs.Given.{given};
 ghost use Rattle.v7_sets.specs.Sets.{AreSetsOf};
+ghost use Rattle.v7_plans.specs.Setting.{put_inode};
+ghost use Rattle.v7_strokes.specs.Entries.{entry_sector, inode_put};
 ghost use Rattle.v7_strokes.specs.Freed.{IsFreed};
 
 /// An accepted RENAME (RFC 1094 2.2.12) onto a name that stands, in one directory or in another one: the new slot's sector, the old slot's, then the
@@ -42,4 +45,13 @@ pub fn a_move_in_place_is_planned()
     ensures new_first { (image : Image) (from to : FileId) (name new_name : List ℕ) (cred : Cred) (now i k : ℕ) (n dp dq : Node) (b1 b2 b3 b4 : List ℕ)
         → IsStrong (frame image) → IsMoving (view image) from to name new_name cred now i k n dp dq → MovesInPlace image now from.ino to.ino k i new_name dq b1 b2 to.ino from.ino b3 b4
         → IsPlanOf image ((Rename from name to new_name, cred) ∷ []) now (moving_puts image from.ino to.ino k dq b1 b2 to.ino from.ino b3 b4) }
+{}
+
+/// An accepted RENAME of what is no directory whose new name makes another directory longer: the sector of the new slot and what else stands nowhere yet,
+/// that directory's inode, which makes all of it appear, the old slot's sector, and the inode of the directory of the old name with its times. A crash
+/// leaves the files before the call, or both names, or the files after it, but for times.
+pub fn a_move_at_the_end_is_planned()
+    ensures { (image : Image) (from to : FileId) (name new_name : List ℕ) (cred : Cred) (now i k : ℕ) (n dp dq : Node) (g : Inode) (b1 b2 b3 : List ℕ) (inner : List (ℕ × List ℕ))
+        → IsStrong (frame image) → IsMoving (view image) from to name new_name cred now i k n dp dq → MovesAtEnd image now from.ino to.ino new_name dq k i g b1 b2 b3 inner
+        → IsPlanOf image ((Rename from name to new_name, cred) ∷ []) now (inner ++ inode_put to.ino b1 ∷ (entry_sector (put_inode (put_all inner image) to.ino b1) from.ino k, b2) ∷ inode_put from.ino b3 ∷ []) }
 {}
