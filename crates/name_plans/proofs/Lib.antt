@@ -29,3 +29,5 @@ pub mod RenameTorn
 pub mod MoveAccepted
 pub mod MovePlan
 pub mod MoveAtEnd
+pub mod NameAccepted
+pub mod NamePlan

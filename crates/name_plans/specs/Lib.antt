@@ -10,3 +10,4 @@ pub mod Linking
 pub mod MakingDirectory
 pub mod Replacement
 pub mod Moving
+pub mod Naming

@@ -6,6 +6,7 @@ ghost use Rattle.files_model.specs.declared.attributes.FileId.{FileId};
 ghost use Rattle.files_model.specs.declared.call.Call.TheVariants.{Rename};
 ghost use Rattle.files_model.specs.declared.credential.Cred.{Cred};
 ghost use Rattle.name_plans.specs.Moving.{IsMoving, MovesAtEnd, MovesInPlace, moving_puts};
+ghost use Rattle.name_plans.specs.Naming.{IsNaming, PutsName, naming_puts};
 ghost use Rattle.name_plans.specs.Removed.{AreFreed, frees_number, number_given};
 ghost use Rattle.name_plans.specs.Replacement.{Finishes, IsReplacement, MovesSlots, moved_slots, replacing_puts};
 ghost use Rattle.stable.specs.Puts.{put_all};
@@ -54,4 +55,12 @@ pub fn a_move_at_the_end_is_planned()
     ensures { (image : Image) (from to : FileId) (name new_name : List ℕ) (cred : Cred) (now i k : ℕ) (n dp dq : Node) (g : Inode) (b1 b2 b3 : List ℕ) (inner : List (ℕ × List ℕ))
         → IsStrong (frame image) → IsMoving (view image) from to name new_name cred now i k n dp dq → MovesAtEnd image now from.ino to.ino new_name dq k i g b1 b2 b3 inner
         → IsPlanOf image ((Rename from name to new_name, cred) ∷ []) now (inner ++ inode_put to.ino b1 ∷ (entry_sector (put_inode (put_all inner image) to.ino b1) from.ino k, b2) ∷ inode_put from.ino b3 ∷ []) }
+{}
+
+/// An accepted RENAME inside one directory to a name that is free, of a file or a directory: the slot's sector, with the new name, and the directory's
+/// inode with its times. A crash leaves the files before the call, or those after it but for the directory's times.
+pub fn a_new_name_is_planned()
+    ensures { (image : Image) (from to : FileId) (name new_name : List ℕ) (cred : Cred) (now i k : ℕ) (n d : Node) (b1 b2 : List ℕ)
+        → IsStrong (frame image) → IsNaming (view image) from to name new_name cred now i k n d → PutsName image now from.ino k i new_name b1 b2
+        → IsPlanOf image ((Rename from name to new_name, cred) ∷ []) now (naming_puts image from.ino k b1 b2) }
 {}
