@@ -170,18 +170,18 @@ module _ (image : Image) (asked : Asked) (now p : ℕ) (name : List ℕ) (d : No
       let a : ℕ = entry_sector first' p (place_for d.slots) in
       let weak = new-weak image i n m b1 strong x.making.absent within' x.making.low x.new x.inode in
       let entry = create-entry image i n m b1 strong x.making.absent within' x.making.low x.new x.inode p d s x.making.at name x.making.good_name (place_for d.slots)
-          (place-past image p d strong.weak s) (place-empty image p d strong.weak s x.inside) x.inside b2 x.entry in
+      (place-past image p d strong.weak s) (place-empty image p d strong.weak s x.inside) x.inside b2 x.entry in
       let same = create-frame image asked now p name d i m strong x.making n x.new x.raised b1 x.inode x.inside b2 b3 x.entry x.times in
       let sizes' = step-sizes first' p (place_for d.slots) a b2 (Some (i, name)) weak entry in
       sets-after image asked now p name d i m n b1 strong x.making x.new x.raised x.inode bare blocks inodes sets
-          (put_all (in_place_puts image p d i b1 b2 b3) image) (λ r. (frame first').address p r) []
-          (ap (λ (f : Frame). f.isize) same ∙ sizes'.0) (ap (λ (f : Frame). f.fsize) same ∙ sizes'.1)
-          (λ j ne r. ap (λ (f : Frame). f.address j r) same ∙ step-addresses first' p (place_for d.slots) a b2 (Some (i, name)) weak entry j r)
-          (λ r. ap (λ (f : Frame). f.address p r) same ∙ step-addresses first' p (place_for d.slots) a b2 (Some (i, name)) weak entry p r)
-          (λ r nz. refl)
-          (record { each = λ r z nz. absurd (nz z); only = λ b h. refl })
-          (λ j. ap (λ (f : Frame). (f.head j).is_used) same ∙ ap (λ (h : Head). h.is_used) (step-heads first' p (place_for d.slots) a b2 (Some (i, name)) weak entry j))
-          (create-plan image asked now p name d i m strong x.making n x.new x.raised b1 x.inode x.inside b2 b3 x.entry x.times).after
+      (put_all (in_place_puts image p d i b1 b2 b3) image) (λ r. (frame first').address p r) []
+      (ap (λ (f : Frame). f.isize) same ∙ sizes'.0) (ap (λ (f : Frame). f.fsize) same ∙ sizes'.1)
+      (λ j ne r. ap (λ (f : Frame). f.address j r) same ∙ step-addresses first' p (place_for d.slots) a b2 (Some (i, name)) weak entry j r)
+      (λ r. ap (λ (f : Frame). f.address p r) same ∙ step-addresses first' p (place_for d.slots) a b2 (Some (i, name)) weak entry p r)
+      (λ r nz. refl)
+      (record { each = λ r z nz. absurd (nz z); only = λ b h. refl })
+      (λ j. ap (λ (f : Frame). (f.head j).is_used) same ∙ ap (λ (h : Head). h.is_used) (step-heads first' p (place_for d.slots) a b2 (Some (i, name)) weak entry j))
+      (create-plan image asked now p name d i m strong x.making n x.new x.raised b1 x.inode x.inside b2 b3 x.entry x.times).after
 
 -- ---- at the end
 
@@ -193,10 +193,10 @@ module _ (image : Image) (asked : Asked) (now p : ℕ) (name : List ℕ) (d : No
       let all : put_all (longer_puts p d i target b1 b2 maps b3) image ≡ put_inode (longer_image image d i target b1 b2 maps) p b3 = put_all-append ((target (Body (length d.slots / 32)), b2) ∷ maps) (inode_put p b3 ∷ []) (put_inode image i b1) in
       subst (λ z. AreSetsOf z (taken new blocks) (set inodes i false)) (sym all)
       (sets-after image asked now p name d i m n b1 strong x.making x.new x.raised x.inode bare blocks inodes sets
-          (put_inode (longer_image image d i target b1 b2 maps) p b3) target new
-          (longer-sizes image asked now p name d i m n target b1 b2 maps direct single b3 strong x).0 (longer-sizes image asked now p name d i m n target b1 b2 maps direct single b3 strong x).1
-          (longer-others image asked now p name d i m n target b1 b2 maps direct single b3 strong x)
-          (longer-own image asked now p name d i m n target b1 b2 maps direct single b3 strong x)
-          x.longer.lays.kept fresh
-          (longer-used image asked now p name d i m n target b1 b2 maps direct single b3 strong x)
-          (ap view (sym all) ∙ (longer-plan image asked now p name d i m n target b1 b2 maps direct single b3 strong x).after))
+      (put_inode (longer_image image d i target b1 b2 maps) p b3) target new
+      (longer-sizes image asked now p name d i m n target b1 b2 maps direct single b3 strong x).0 (longer-sizes image asked now p name d i m n target b1 b2 maps direct single b3 strong x).1
+      (longer-others image asked now p name d i m n target b1 b2 maps direct single b3 strong x)
+      (longer-own image asked now p name d i m n target b1 b2 maps direct single b3 strong x)
+      x.longer.lays.kept fresh
+      (longer-used image asked now p name d i m n target b1 b2 maps direct single b3 strong x)
+      (ap view (sym all) ∙ (longer-plan image asked now p name d i m n target b1 b2 maps direct single b3 strong x).after))

@@ -44,4 +44,3 @@ named-past image p d name k i weak s slot good = ⊎_elim
     no_dots : (other : List ℕ) → name ≡ other → (other ≡ 46 ∷ []) ⊎ (other ≡ 46 ∷ 46 ∷ []) → ⊥
     no_dots other e (inl one') = let t : (is_bad (46 ∷ []) || is_dots (46 ∷ [])) ≡ false = subst (λ z. (is_bad z || is_dots z) ≡ false) (e ∙ one') good in cc
     no_dots other e (inr two) = let t : (is_bad (46 ∷ 46 ∷ []) || is_dots (46 ∷ 46 ∷ [])) ≡ false = subst (λ z. (is_bad z || is_dots z) ≡ false) (e ∙ two) good in cc
-

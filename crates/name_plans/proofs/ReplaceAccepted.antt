@@ -58,7 +58,6 @@ pub record IsReplacing (files : Files) (from to : FileId) (name new_name : List 
   pub after : after_calls files ((call.Rename from name to new_name, cred) ∷ []) now
       ≡ less_link (emptied_in (with_node files to.ino (record dq { slots = set dq.slots l (Some (i, new_name)); mtime = now; ctime = now })) from.ino k now) r w now
 
-
 and_no : (b : Bool) → (b && false) ≡ false
 and_no true = refl
 and_no false = refl

@@ -53,8 +53,8 @@ rmdir-low image asked now p name d k i n strong c =
     let s = stands-dir image i n strong.weak c.at_node c.node_kind in
     let used = (frame-IsFrame image).directories i s.dir in
     let r = used-number image i used in let positive = r.0 in let two = c.no_root in ⊎_elim
-      (λ (one' : i ≡ 1). absurd (clash used (subst (λ z. ((frame image).head z).is_used ≡ false) (sym one') strong.weak.first)))
-      (λ (n1 : i ≢ 1). omega arith) (cases_eq i 1)
+    (λ (one' : i ≡ 1). absurd (clash used (subst (λ z. ((frame image).head z).is_used ≡ false) (sym one') strong.weak.first)))
+    (λ (n1 : i ≢ 1). omega arith) (cases_eq i 1)
 
 module _ (image : Image) (asked : Asked) (now p : ℕ) (name : List ℕ) (d : Node) (k i : ℕ) (n : Node) (strong : IsStrong (frame image)) (c : IsTaking (view image) asked now p name d k i n)
     (b1 : List ℕ) (p1 : PutsSlot (sector_at image (entry_sector image p k)) k b1 None) where
