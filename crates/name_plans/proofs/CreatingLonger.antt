@@ -1,18 +1,16 @@
 -- CREATE of a new file whose entry makes the directory longer, by the blocks where the directory's are to stand.
-use Rattle.std.proofs.Common.{◌≡◌, ◌≢◌, ℕ, ◌+◌, ◌/◌, ◌%◌, ◌<◌, ◌≤◌, Bool, true, false, List, [], ◌∷◌, ◌++◌, length, set, refl, sym, ap, subst, ◌∙◌, arith, ⊎_elim, Some, unwrap_or}
+use Rattle.std.proofs.Common.{◌≡◌, ◌≢◌, ℕ, ◌+◌, ◌/◌, ◌%◌, ◌<◌, ◌≤◌, Bool, true, false, List, [], ◌∷◌, length, set, refl, sym, ap, subst, ◌∙◌, arith, ⊎_elim, Some}
 use Rattle.std.proofs.lemmas.Bool.{cases_eq, ne_eqb}
-use Rattle.std.specs.FinMap.{get}
 use Rattle.v7_layout.specs.declared.inode.Inode.{Inode}
 use Rattle.v7_layout.specs.Numbers.{field}
-use Rattle.files_model.specs.Files.{Node, Slot, sectors_of}
+use Rattle.files_model.specs.Files.{Node, sectors_of}
 use Rattle.files_model.specs.Space.{size_limit}
 use Rattle.files_model.specs.Torn.{Asked}
 use Rattle.stable.specs.Puts.{put_all}
 use Rattle.stable.specs.Store.{Image}
-use Rattle.v7_map.specs.Image.{inode_at, inode_sector}
-use Rattle.v7_map.specs.Frame.{Frame, Head, Place, Body, head_of, is_directory, address_of, frame}
-use Rattle.v7_map.specs.Tree.{tree, is_walked, is_named, links, is_slot_of}
-use Rattle.v7_map.specs.View.{view}
+use Rattle.v7_map.specs.Image.{inode_at}
+use Rattle.v7_map.specs.Frame.{Head, Place, Body, head_of, is_directory, frame}
+use Rattle.v7_map.specs.Tree.{tree, is_named, links, is_slot_of}
 use Rattle.v7_map.specs.Weak.{IsWeak, IsStrong}
 use Rattle.v7_map.specs.Plan.{PutsInode}
 use Rattle.v7_map.specs.Plans.{IsPlanOf}

@@ -1,26 +1,26 @@
 -- What is free after a creation: the new i-number is taken, and so are the new blocks of its directory.
-use Rattle.std.proofs.Common.{◌≡◌, ◌≢◌, ℕ, ◌+◌, ◌/◌, ◌<◌, ◌≤◌, Bool, true, false, cond, ◌==◌, ◌||◌, List, [], ◌∷◌, ◌++◌, length, set, refl, sym, ap, subst, ◌∙◌, arith, ⊎_elim, Some, unwrap_or, length-set, get_or-set_other, get_or-set_same, eq-eqb}
+use Rattle.std.proofs.Common.{◌≡◌, ◌≢◌, ℕ, ◌+◌, ◌/◌, ◌<◌, ◌≤◌, Bool, true, false, ◌==◌, ◌||◌, List, [], ◌∷◌, length, set, refl, sym, ap, subst, ◌∙◌, arith, ⊎_elim, Some, unwrap_or, length-set, get_or-set_other, get_or-set_same, eq-eqb}
 use Rattle.std.proofs.lemmas.Bool.{cases_eq, cases_lt, cases_Bool, ne_eqb}
 use Rattle.std.proofs.lemmas.List.{get_or_past}
 use Rattle.std.specs.FinMap.{get, insert}
 use Rattle.files_model.specs.Among.{is_among}
 use Rattle.files_model.specs.Files.{Node, Files}
-use Rattle.files_model.specs.Names.{made_at, place_for, with_entry}
+use Rattle.files_model.specs.Names.{place_for}
 use Rattle.files_model.specs.Torn.{Asked, after_calls}
 use Rattle.index_sets.specs.Free.{is_free}
 use Rattle.stable.specs.Puts.{put_all}
 use Rattle.stable.specs.Store.{Image}
 use Rattle.v7_layout.specs.declared.inode.Inode.{Inode}
-use Rattle.v7_map.specs.Image.{inode_at, inode_sector, inodes_before}
-use Rattle.v7_map.specs.Frame.{Frame, Head, Place, Body, head_of, address_of, frame}
+use Rattle.v7_map.specs.Image.{inodes_before}
+use Rattle.v7_map.specs.Frame.{Frame, Head, Place, Body, frame}
 use Rattle.v7_map.specs.Tree.{tree, is_named}
 use Rattle.v7_map.specs.View.{view}
 use Rattle.v7_map.specs.Weak.{IsWeak, IsStrong}
 use Rattle.v7_map.specs.Plan.{PutsInode}
 use Rattle.v7_map.proofs.AnyFrame.{frame-IsFrame}
 use Rattle.v7_plans.specs.Setting.{put_inode}
-use Rattle.v7_sets.specs.Sets.{IsFreeBlock, IsFreeNumber, AreSets, AreSetsOf}
-use Rattle.v7_strokes.specs.FreeSets.{HoldsBlocks, HoldsNumbers, GainsBlocks, TakesBlocks, KeepsNumbers}
+use Rattle.v7_sets.specs.Sets.{AreSetsOf}
+use Rattle.v7_strokes.specs.FreeSets.{HoldsBlocks, HoldsNumbers}
 use Rattle.v7_strokes.specs.NewNodes.{IsNewFile}
 use Rattle.v7_strokes.proofs.Absent.{absent-unnamed, absent-free}
 use Rattle.v7_strokes.proofs.Numbers.{unnamed-numbers}

@@ -1,10 +1,9 @@
 -- CREATE of a name that a regular file has does what a SETATTR of its size does.
-use Rattle.std.proofs.Common.{◌≡◌, ◌≢◌, ℕ, ◌+◌, ◌<◌, ◌≤◌, Bool, true, false, cond, not, ◌&&◌, ◌||◌, ◌==◌, List, [], ◌∷◌, ◌++◌, refl, sym, ap, subst, ◌∙◌, arith, inl, inr, ⊎_elim, eqb, ltb, eq-eqb, is_some, Option, Some, None, unwrap_or}
+use Rattle.std.proofs.Common.{◌≡◌, ◌≢◌, ℕ, Bool, true, false, cond, not, ◌&&◌, List, [], ◌∷◌, ◌++◌, refl, sym, ap, subst, ◌∙◌, arith, inl, inr, ⊎_elim, ltb, eq-eqb, is_some, Option, Some, None, unwrap_or}
 use Rattle.std.specs.List.{position}
 use Rattle.std.specs.FinMap.{get}
 use Rattle.files_model.specs.declared.attributes.FileId.{FileId}
 use Rattle.files_model.specs.declared.attributes.Sattr.{Sattr}
-use Rattle.files_model.specs.declared.attributes.Attr.{Attr}
 use Rattle.files_model.specs.declared.attributes.Kind.{Kind}
 use Rattle.files_model.specs.declared.attributes.Kind.TheVariants.{Regular, Directory, Link}
 use Rattle.files_model.specs.declared.credential.Cred.{Cred}
@@ -19,14 +18,13 @@ use Rattle.files_model.specs.Attributes.{set_node}
 use Rattle.files_model.specs.FileRows.{setattr_row, setattr_refusal}
 use Rattle.files_model.specs.Files.{Node, Files, live, if_current}
 use Rattle.files_model.specs.NameRows.{create_row, create_at, create_tests, resize_at, has_other_type}
-use Rattle.files_model.specs.Names.{has_name, number_at, at_node, handle_of, name_tests, size_alone}
+use Rattle.files_model.specs.Names.{has_name, at_node, handle_of, name_tests, size_alone}
 use Rattle.files_model.specs.Permission.{allows, is_regular, is_directory}
 use Rattle.files_model.specs.Space.{size_limit}
 use Rattle.files_model.specs.Step.{step}
 use Rattle.files_model.specs.Torn.{Asked, Torn, TornWrites, TornTimes, TornRename, TornCreation, IsTornNode, after_calls, is_write, makes_node}
 use Rattle.stable.specs.Store.{Image}
 use Rattle.v7_map.specs.Frame.{frame}
-use Rattle.v7_map.specs.Tree.{tree}
 use Rattle.v7_map.specs.View.{view}
 use Rattle.v7_map.specs.Weak.{IsStrong}
 use Rattle.v7_map.specs.Plans.{IsTornImage, IsPlanOf}

@@ -1,7 +1,6 @@
 -- A directory gets longer by a slot: puts that don't show, and an inode that makes them appear.
-use Rattle.std.proofs.Common.{◌≡◌, ◌≢◌, ℕ, ◌+◌, ◌-◌, ◌*◌, ◌/◌, ◌%◌, ◌<◌, ◌≤◌, Bool, true, false, cond, not, ◌==◌, List, [], ◌∷◌, length, get_or, set, refl, sym, ap, subst, ◌∙◌, arith, ⊎_elim, eqb, ltb, length-set, get_or-set_other, get_or-set_same, Some}
-use Rattle.std.proofs.lemmas.Bool.{cases_eq, cases_lt, ne_eqb, eqb-true}
-use Rattle.std.specs.List.{range_with_len, list_any}
+use Rattle.std.proofs.Common.{◌≡◌, ◌≢◌, ℕ, ◌+◌, ◌-◌, ◌*◌, ◌/◌, ◌%◌, ◌<◌, ◌≤◌, true, false, cond, not, ◌==◌, List, [], ◌∷◌, length, get_or, set, refl, sym, ap, subst, ◌∙◌, arith, ⊎_elim, ltb, length-set, get_or-set_other, get_or-set_same, Some}
+use Rattle.std.proofs.lemmas.Bool.{cases_eq, cases_lt, ne_eqb}
 use Rattle.v7_layout.specs.declared.inode.Inode.{Inode}
 use Rattle.v7_layout.specs.Numbers.{field, part}
 use Rattle.files_model.specs.Answers.{zeros}
@@ -10,11 +9,10 @@ use Rattle.files_model.specs.Space.{size_limit}
 use Rattle.stable.specs.Puts.{put_all}
 use Rattle.stable.specs.Store.{Image}
 use Rattle.v7_map.specs.Image.{sector_at, inode_at}
-use Rattle.v7_map.specs.Frame.{Frame, Head, Place, Body, Single, Double, head_of, is_directory, address_of, place_of, listed, slot_of, frame}
+use Rattle.v7_map.specs.Frame.{Frame, Head, Place, Body, Single, Double, head_of, is_directory, address_of, listed, slot_of, frame}
 use Rattle.v7_map.specs.Tree.{tree, is_walked, links, is_slot_of}
 use Rattle.v7_map.specs.Weak.{IsWeak}
 use Rattle.v7_map.proofs.AnyFrame.{frame-IsFrame}
-use Rattle.v7_map.proofs.Frames.{cond_same}
 use Rattle.v7_plans.specs.Placed.{IsMine}
 use Rattle.v7_plans.specs.Quiet.{IsQuiet, IsMuted, AllMuted}
 use Rattle.v7_plans.proofs.Local.{held-mine}

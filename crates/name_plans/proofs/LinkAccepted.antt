@@ -1,7 +1,6 @@
 -- What the step of an accepted LINK is, and what is known of its nodes.
 use Rattle.std.proofs.Common.{◌≡◌, ◌≢◌, ℕ, ◌+◌, ◌<◌, ◌≤◌, Bool, true, false, not, ◌||◌, List, [], ◌∷◌, ◌++◌, length, Some, None, is_some, refl, ap, ◌∙◌, arith, ltb, leb}
 use Rattle.std.specs.FinMap.{get}
-use Rattle.std.specs.List.{position}
 use Rattle.files_model.specs.declared.attributes.FileId.{FileId}
 use Rattle.files_model.specs.declared.credential.Cred.{Cred}
 use Rattle.files_model.specs.declared.call.Call.TheVariants as call
@@ -11,7 +10,7 @@ use Rattle.files_model.specs.declared.reply.Stat.TheVariants as stat
 use Rattle.files_model.specs.Answers.{at_live, unless, first_of, with_node}
 use Rattle.files_model.specs.Files.{Node, Files}
 use Rattle.files_model.specs.NameRows.{link_row, at_free_name, entry_tests, is_full_for, most_links}
-use Rattle.files_model.specs.Names.{name_tests, is_bad, is_dots, most_name, has_name, with_entry, may_change}
+use Rattle.files_model.specs.Names.{name_tests, is_bad, is_dots, most_name, with_entry, may_change}
 use Rattle.files_model.specs.Permission.{is_directory}
 use Rattle.files_model.specs.Space.{size_limit}
 use Rattle.files_model.specs.Step.{step}

@@ -9,7 +9,7 @@ use Rattle.files_model.specs.Torn.{Asked, Torn, after_calls}
 use Rattle.files_model.proofs.Maps.{get-insert_same, get-insert_other}
 use Rattle.stable.specs.Store.{Image}
 use Rattle.v7_map.specs.Image.{inode_at, inode_sector}
-use Rattle.v7_map.specs.Frame.{Frame, Head, Place, head_of, is_directory, frame}
+use Rattle.v7_map.specs.Frame.{Head, Place, head_of, is_directory, frame}
 use Rattle.v7_map.specs.Tree.{tree, links}
 use Rattle.v7_map.specs.View.{view}
 use Rattle.v7_map.specs.Weak.{IsWeak, IsStrong}
@@ -18,7 +18,6 @@ use Rattle.v7_map.proofs.AnyFrame.{frame-IsFrame}
 use Rattle.v7_map.proofs.Nodes.{StandsAs, view-node}
 use Rattle.v7_map.proofs.Used.{named_used}
 use Rattle.v7_plans.proofs.Local.{IsStrongFor, strong_for, each}
-use Rattle.v7_strokes.specs.Changes.{changed}
 use Rattle.v7_strokes.specs.Inodes.{linked_inode}
 use Rattle.v7_strokes.proofs.AttrPut.{attr-weak, attr-strong, attr-tree, attr-head, attr-heads, attr-view, attr-sizes, attr-addresses}
 use Rattle.v7_strokes.proofs.Directories.{StandsDir, stands-dir, node-directory}

@@ -10,7 +10,7 @@ use Rattle.files_model.proofs.Maps.{get-insert_same, get-insert_other}
 use Rattle.stable.specs.Puts.{put_all}
 use Rattle.stable.specs.Store.{Image}
 use Rattle.v7_map.specs.Image.{inode_sector}
-use Rattle.v7_map.specs.Frame.{Frame, Head, Place, is_directory, frame}
+use Rattle.v7_map.specs.Frame.{Frame, Head, is_directory, frame}
 use Rattle.v7_map.specs.Tree.{tree, is_walked, is_named, links, is_slot_of}
 use Rattle.v7_map.specs.View.{view}
 use Rattle.v7_map.specs.Weak.{IsWeak, IsStrong, slot_at}
@@ -18,7 +18,6 @@ use Rattle.v7_map.specs.Plans.{IsPlanOf}
 use Rattle.v7_map.proofs.Nodes.{StandsAs, view-node}
 use Rattle.v7_map.proofs.Ranges.{inode_sector-inside}
 use Rattle.v7_map.proofs.Walks.{or_right}
-use Rattle.v7_plans.specs.Setting.{put_inode}
 use Rattle.v7_plans.proofs.Local.{strong_of}
 use Rattle.v7_sets.specs.Sets.{AreSetsOf}
 use Rattle.v7_strokes.specs.Changes.{changed}
@@ -38,7 +37,7 @@ use Rattle.name_plans.specs.CreatingPuts.{in_place_puts}
 use Rattle.name_plans.specs.Linking.{LinksInPlace}
 use Rattle.name_plans.proofs.CreatingInPlace.{lt_ltb}
 use Rattle.name_plans.proofs.LinkAccepted.{IsLinking}
-use Rattle.name_plans.proofs.LinkFirst.{link-dir, link-stands, link-file, link-apart, link-used, link-links, link-weak, link-strong, link-tree, link-head, link-heads, link-uses, link-sizes, link-addresses, link-view, link-torn}
+use Rattle.name_plans.proofs.LinkFirst.{link-dir, link-file, link-apart, link-used, link-links, link-weak, link-strong, link-tree, link-head, link-heads, link-uses, link-sizes, link-addresses, link-view, link-torn}
 use Rattle.name_plans.proofs.StayingSets.{sets-stay}
 
 module _ (image : Image) (asked : Asked) (now p : ℕ) (name : List ℕ) (d : Node) (i : ℕ) (n : Node) (b1 b2 b3 : List ℕ) (strong : IsStrong (frame image)) (c : IsLinking (view image) asked now p name d i n)

@@ -1,7 +1,6 @@
 -- What the step of an accepted MKDIR is, and what is known of its nodes.
 use Rattle.std.proofs.Common.{◌≡◌, ◌≢◌, ℕ, ◌+◌, ◌-◌, ◌<◌, ◌≤◌, Bool, true, false, not, ◌||◌, List, [], ◌∷◌, length, Some, None, is_some, refl, sym, ap, subst, ◌∙◌, arith, ltb, leb, unwrap_or}
 use Rattle.std.specs.FinMap.{get}
-use Rattle.std.specs.List.{position}
 use Rattle.files_model.specs.declared.attributes.FileId.{FileId}
 use Rattle.files_model.specs.declared.attributes.Sattr.{Sattr}
 use Rattle.files_model.specs.declared.credential.Cred.{Cred}
@@ -12,7 +11,7 @@ use Rattle.files_model.specs.declared.reply.Stat.TheVariants as stat
 use Rattle.files_model.specs.Answers.{at_live, unless, first_of, attr_of}
 use Rattle.files_model.specs.Files.{Node, Files}
 use Rattle.files_model.specs.NameRows.{mkdir_row, at_free_name, at_usable, place_tests, entry_tests, most_links, new_directory}
-use Rattle.files_model.specs.Names.{name_tests, is_bad, is_dots, most_name, has_name, lowest_usable, with_entry, made_at}
+use Rattle.files_model.specs.Names.{name_tests, is_bad, is_dots, most_name, lowest_usable, with_entry, made_at}
 use Rattle.files_model.specs.Permission.{is_directory}
 use Rattle.files_model.specs.Space.{free, node_usage}
 use Rattle.files_model.specs.Step.{step}

@@ -1,12 +1,12 @@
 -- The put of a new directory's inode, once its sector is put.
-use Rattle.std.proofs.Common.{◌≡◌, ◌≢◌, ℕ, ◌+◌, ◌<◌, ◌≤◌, Bool, true, false, List, [], ◌∷◌, length, set, refl, sym, ap, subst, ◌∙◌, Some, None, unwrap_or}
+use Rattle.std.proofs.Common.{◌≡◌, ◌≢◌, ℕ, ◌+◌, ◌<◌, Bool, true, false, List, [], ◌∷◌, set, sym, ap, subst, ◌∙◌, unwrap_or}
 use Rattle.std.specs.FinMap.{get, insert}
 use Rattle.v7_layout.specs.declared.inode.Inode.{Inode}
-use Rattle.files_model.specs.Files.{Node, Files}
-use Rattle.files_model.specs.Torn.{Asked, Torn, after_calls}
+use Rattle.files_model.specs.Files.{Node}
+use Rattle.files_model.specs.Torn.{Asked, Torn}
 use Rattle.stable.specs.Store.{Image}
 use Rattle.v7_map.specs.Image.{inode_sector}
-use Rattle.v7_map.specs.Frame.{Head, head_of, slots_of, frame}
+use Rattle.v7_map.specs.Frame.{head_of, slots_of, frame}
 use Rattle.v7_map.specs.Tree.{tree, is_walked, is_named, links}
 use Rattle.v7_map.specs.View.{view, node_of, node_at}
 use Rattle.v7_map.specs.Weak.{IsWeak, IsStrong}

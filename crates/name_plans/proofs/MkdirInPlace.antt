@@ -1,5 +1,5 @@
 -- MKDIR into an empty slot, once the new directory's sector is put: the new inode, the slot, the parent's links and times.
-use Rattle.std.proofs.Common.{◌≡◌, ◌≢◌, ℕ, ◌+◌, ◌/◌, ◌<◌, ◌≤◌, true, false, cond, List, [], ◌∷◌, ◌++◌, length, get_or, set, refl, sym, ap, subst, ◌∙◌, arith, inl, inr, ⊎_elim, Option, Some, None, unwrap_or, length-set}
+use Rattle.std.proofs.Common.{◌≡◌, ◌≢◌, ℕ, ◌+◌, ◌/◌, ◌<◌, ◌≤◌, true, cond, List, [], ◌∷◌, ◌++◌, length, get_or, set, refl, sym, ap, subst, ◌∙◌, arith, inl, inr, ⊎_elim, Option, Some, None, unwrap_or, length-set}
 use Rattle.std.proofs.lemmas.Bool.{cases_eq}
 use Rattle.std.specs.FinMap.{get, insert}
 use Rattle.v7_layout.specs.declared.inode.Inode.{Inode}
@@ -11,7 +11,7 @@ use Rattle.files_model.proofs.Maps.{get-insert_same, get-insert_other}
 use Rattle.stable.specs.Puts.{put_all}
 use Rattle.stable.specs.Store.{Image}
 use Rattle.v7_map.specs.Image.{inode_at, inode_sector}
-use Rattle.v7_map.specs.Frame.{Frame, Head, Place, Body, head_of, is_directory, frame}
+use Rattle.v7_map.specs.Frame.{Head, Place, Body, head_of, is_directory, frame}
 use Rattle.v7_map.specs.Tree.{tree, is_named, links}
 use Rattle.v7_map.specs.View.{view}
 use Rattle.v7_map.specs.Weak.{IsWeak, IsStrong}

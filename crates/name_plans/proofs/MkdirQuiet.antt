@@ -1,20 +1,17 @@
 -- MKDIR with the put of the new directory's sector, which stands nowhere yet, before all others.
-use Rattle.std.proofs.Common.{◌≡◌, ◌≢◌, ℕ, suc, ◌+◌, ◌-◌, ◌<◌, ◌≤◌, ◌%◌, Bool, true, false, cond, ◌||◌, ◌==◌, ◌⊎◌, List, [], ◌∷◌, ◌++◌, length, get_or, set, refl, sym, ap, subst, ◌∙◌, arith, inl, inr, ⊎_elim, ltb, Some, unwrap_or, get_or-set_same, length-set}
-use Rattle.std.proofs.lemmas.Bool.{cases_eq, cases_lt, ne_eqb, eq-eqb}
-use Rattle.std.specs.FinMap.{get, insert}
+use Rattle.std.proofs.Common.{◌≡◌, ℕ, ◌+◌, ◌<◌, ◌%◌, List, [], ◌∷◌, ◌++◌, set, refl, sym, ap, subst, ◌∙◌, arith, unwrap_or, get_or-set_same}
+use Rattle.std.specs.FinMap.{get}
 use Rattle.files_model.specs.declared.attributes.FileId.{FileId}
 use Rattle.files_model.specs.declared.attributes.Sattr.{Sattr}
 use Rattle.files_model.specs.declared.credential.Cred.{Cred}
 use Rattle.files_model.specs.declared.call.Call.TheVariants as call
 use Rattle.files_model.specs.Files.{Node, Files}
 use Rattle.files_model.specs.NameRows.{new_directory}
-use Rattle.files_model.specs.Torn.{Asked}
-use Rattle.stable.specs.Puts.{put_all}
 use Rattle.stable.specs.Store.{Image}
 use Rattle.v7_layout.specs.Numbers.{part}
 use Rattle.v7_layout.specs.declared.inode.Inode.{Inode}
 use Rattle.v7_map.specs.Image.{sector_at}
-use Rattle.v7_map.specs.Frame.{Frame, slot_of, frame}
+use Rattle.v7_map.specs.Frame.{slot_of, frame}
 use Rattle.v7_map.specs.View.{view}
 use Rattle.v7_map.specs.Weak.{IsStrong}
 use Rattle.v7_map.specs.Plan.{PutsInode}

@@ -1,5 +1,5 @@
 -- What is free after a MKDIR in place: its block and its i-number are taken.
-use Rattle.std.proofs.Common.{◌≡◌, ◌≢◌, ◌⊎◌, ℕ, zero, suc, ◌+◌, ◌-◌, ◌<◌, ◌≤◌, Bool, true, false, cond, ◌||◌, ◌==◌, List, [], ◌∷◌, length, get_or, set, replicate, refl, sym, ap, subst, ◌∙◌, arith, inl, inr, ⊎_elim, eq-eqb, unwrap_or, length-set}
+use Rattle.std.proofs.Common.{◌≡◌, ◌≢◌, ◌⊎◌, ℕ, zero, suc, ◌+◌, ◌-◌, ◌<◌, ◌≤◌, Bool, true, false, ◌||◌, ◌==◌, List, [], ◌∷◌, get_or, set, replicate, refl, sym, ap, subst, ◌∙◌, arith, inl, inr, ⊎_elim, eq-eqb, unwrap_or, length-set}
 use Rattle.std.proofs.lemmas.Bool.{cases_lt, ne_eqb}
 use Rattle.std.specs.FinMap.{get, insert}
 use Rattle.files_model.specs.declared.attributes.FileId.{FileId}
@@ -9,11 +9,10 @@ use Rattle.files_model.specs.declared.call.Call.TheVariants as call
 use Rattle.files_model.specs.Among.{is_among}
 use Rattle.files_model.specs.Files.{Node, Files}
 use Rattle.files_model.specs.NameRows.{new_directory}
-use Rattle.index_sets.specs.Free.{is_free}
 use Rattle.stable.specs.Puts.{put_all}
 use Rattle.stable.specs.Store.{Image}
 use Rattle.v7_layout.specs.declared.inode.Inode.{Inode}
-use Rattle.v7_map.specs.Image.{inode_sector, inodes_before}
+use Rattle.v7_map.specs.Image.{inodes_before}
 use Rattle.v7_map.specs.Frame.{Frame, Head, Place, Body, Single, Double, head_of, address_of, listed, frame}
 use Rattle.v7_map.specs.Tree.{tree, is_named}
 use Rattle.v7_map.specs.View.{view}

@@ -11,7 +11,7 @@ use Rattle.files_model.specs.declared.reply.Stat.TheVariants as stat
 use Rattle.files_model.specs.declared.reply.Reply.{Reply}
 use Rattle.files_model.specs.declared.reply.Reply.TheVariants as reply
 use Rattle.files_model.specs.Answers.{at_live, unless, first_of, with_node}
-use Rattle.files_model.specs.Files.{Node, Files, live}
+use Rattle.files_model.specs.Files.{Node, Files}
 use Rattle.files_model.specs.NameRows.{rename_row, rename_tests, renamed_in, moved_files, emptied_in, emptied_at, is_full_for}
 use Rattle.files_model.specs.Names.{at_slot, at_node, at_name, name_tests, is_bad, is_dots, most_name, has_name, number_at, with_entry, without_entry, may_change, place_for}
 use Rattle.files_model.specs.Permission.{is_directory}

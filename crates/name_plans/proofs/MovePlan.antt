@@ -4,8 +4,6 @@ use Rattle.std.proofs.lemmas.Bool.{cases_eq, ne_eqb, eqb-true}
 use Rattle.std.specs.FinMap.{get}
 use Rattle.v7_layout.specs.declared.inode.Inode.{Inode}
 use Rattle.files_model.specs.declared.attributes.FileId.{FileId}
-use Rattle.files_model.specs.declared.attributes.Kind.{Kind}
-use Rattle.files_model.specs.declared.attributes.Kind.TheVariants.{Regular, Directory, Link}
 use Rattle.files_model.specs.declared.credential.Cred.{Cred}
 use Rattle.files_model.specs.Files.{Node, Files}
 use Rattle.files_model.specs.Answers.{with_node}
@@ -42,7 +40,6 @@ use Rattle.v7_strokes.proofs.SlotStep.{step-weak, step-strong, step-links, step-
 use Rattle.v7_strokes.proofs.TornCalls.{IsAfter, same, times, torn-after, insert_again, insert_twice}
 use Rattle.v7_strokes.proofs.Views.{view-slot}
 use Rattle.files_model.specs.declared.call.Call.TheVariants as call
-use Rattle.files_model.specs.Permission as permission
 
 clash : {b : Bool} → b ≡ true → b ≡ false → ⊥
 clash {b = b} x y = cc

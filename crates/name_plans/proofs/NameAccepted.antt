@@ -1,9 +1,9 @@
 -- What the step of an accepted RENAME inside one directory is, where the new name is free, and what is known of its slot and nodes.
-use Rattle.std.proofs.Common.{◌≡◌, ◌≢◌, ℕ, ◌+◌, ◌<◌, ◌≤◌, Bool, true, false, not, ◌&&◌, ◌||◌, ◌==◌, if◌then◌else◌, List, [], ◌∷◌, ◌++◌, length, get_or, set, Option, Some, None, refl, sym, ap, subst, ◌∙◌, arith, ltb, eq-eqb, unwrap_or}
+use Rattle.std.proofs.Common.{◌≡◌, ◌≢◌, ℕ, ◌+◌, ◌<◌, ◌≤◌, true, false, not, ◌&&◌, ◌||◌, ◌==◌, if◌then◌else◌, List, [], ◌∷◌, ◌++◌, length, get_or, set, Option, Some, None, refl, sym, ap, ◌∙◌, arith, ltb, eq-eqb, unwrap_or}
 use Rattle.std.proofs.lemmas.Bool.{ne_eqb}
 use Rattle.std.specs.FinMap.{get}
 use Rattle.std.specs.List.{position}
-use Rattle.std.specs.Option.{option_map, is_none}
+use Rattle.std.specs.Option.{option_map}
 use Rattle.files_model.specs.declared.attributes.FileId.{FileId}
 use Rattle.files_model.specs.declared.credential.Cred.{Cred}
 use Rattle.files_model.specs.declared.call.Call.TheVariants as call
@@ -28,7 +28,7 @@ use Rattle.v7_map.proofs.Named.{names_is}
 use Rattle.v7_map.proofs.Nodes.{live-node, view-node}
 use Rattle.v7_map.proofs.Used.{named_used}
 use Rattle.v7_map.proofs.Walks.{walked_reached, reached_walked}
-use Rattle.v7_strokes.proofs.Directories.{StandsDir, stands-dir}
+use Rattle.v7_strokes.proofs.Directories.{stands-dir}
 use Rattle.v7_strokes.proofs.Names.{slot_of_any}
 use Rattle.v7_strokes.proofs.SlotStep.{used-number}
 use Rattle.name_plans.specs.Naming.{IsNaming}

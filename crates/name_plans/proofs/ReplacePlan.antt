@@ -43,7 +43,7 @@ use Rattle.v7_strokes.proofs.Slots.{plain-alike}
 use Rattle.v7_strokes.proofs.SlotStep.{step-sizes, step-addresses, step-weak, step-strong, step-links, step-links_other, step-heads, step-is_walked, entry-inside, walked-dir, used-number}
 use Rattle.v7_strokes.proofs.TornCalls.{IsAfter, same, times}
 use Rattle.v7_strokes.proofs.Views.{same-within, get-put_same, get-put_other}
-use Rattle.name_plans.specs.Replacement.{Finishes, replacing_puts}
+use Rattle.name_plans.specs.Replacement.{Finishes}
 use Rattle.name_plans.proofs.ReplaceAccepted.{IsReplacing, no_kind}
 
 clash : {b : Bool} → b ≡ true → b ≡ false → ⊥

@@ -1,5 +1,5 @@
 -- What is free stays, where blocks and used inodes stay.
-use Rattle.std.proofs.Common.{◌≡◌, ℕ, ◌+◌, ◌<◌, ◌≤◌, Bool, List, length, sym, ap, subst, ◌∙◌}
+use Rattle.std.proofs.Common.{◌≡◌, ℕ, ◌+◌, ◌<◌, ◌≤◌, Bool, List, sym, ap, subst, ◌∙◌}
 use Rattle.stable.specs.Store.{Image}
 use Rattle.v7_map.specs.Image.{inodes_before}
 use Rattle.v7_map.specs.Frame.{Frame, Place, frame}
