@@ -31,3 +31,4 @@ pub mod MovePlan
 pub mod MoveAtEnd
 pub mod NameAccepted
 pub mod NamePlan
+pub mod ReplaceSets

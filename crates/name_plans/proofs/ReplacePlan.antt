@@ -51,7 +51,7 @@ clash {b = b} x y = cc
 
 -- ---- what a lost name leaves
 
-less-here : (files : Files) (r : ℕ) (w : Node) (now : ℕ) → get (less_link files r w now).nodes r ≡ lost_of w now
+pub less-here : (files : Files) (r : ℕ) (w : Node) (now : ℕ) → get (less_link files r w now).nodes r ≡ lost_of w now
 less-here files r w now = elim (eqb w.nlink 1) as (λ t. get (if t then record files { nodes = remove files.nodes r } else with_node files r (record w { nlink = w.nlink - 1; ctime = now })).nodes r ≡ (if t then None else Some (record w { nlink = w.nlink - 1; ctime = now }))) [
   | true ↦ gone files r
   | false ↦ get-insert_same files.nodes r (record w { nlink = w.nlink - 1; ctime = now })
@@ -60,13 +60,13 @@ less-here files r w now = elim (eqb w.nlink 1) as (λ t. get (if t then record f
     gone : (files : Files) (r : ℕ) → get (remove files.nodes r) r ≡ None
     gone files r = get-put_same files.nodes r None
 
-less-other : (files : Files) (r : ℕ) (w : Node) (now j : ℕ) → j ≢ r → get (less_link files r w now).nodes j ≡ get files.nodes j
+pub less-other : (files : Files) (r : ℕ) (w : Node) (now j : ℕ) → j ≢ r → get (less_link files r w now).nodes j ≡ get files.nodes j
 less-other files r w now j ne = elim (eqb w.nlink 1) as (λ t. get (if t then record files { nodes = remove files.nodes r } else with_node files r (record w { nlink = w.nlink - 1; ctime = now })).nodes j ≡ get files.nodes j) [
   | true ↦ get-put_other files.nodes r None j ne
   | false ↦ get-insert_other files.nodes r (record w { nlink = w.nlink - 1; ctime = now }) j ne
 ]
 
-less-rest : (files : Files) (r : ℕ) (w : Node) (now : ℕ) → less_link files r w now ≡ record files { nodes = (less_link files r w now).nodes }
+pub less-rest : (files : Files) (r : ℕ) (w : Node) (now : ℕ) → less_link files r w now ≡ record files { nodes = (less_link files r w now).nodes }
 less-rest files r w now = elim (eqb w.nlink 1) as (λ t. (if t then record files { nodes = remove files.nodes r } else with_node files r (record w { nlink = w.nlink - 1; ctime = now }))
     ≡ record files { nodes = (if t then record files { nodes = remove files.nodes r } else with_node files r (record w { nlink = w.nlink - 1; ctime = now })).nodes }) [
       | true ↦ refl

@@ -22,7 +22,7 @@ use Rattle.v7_strokes.specs.FreeSets.{HoldsBlocks, HoldsNumbers}
 use Rattle.v7_strokes.proofs.SetsAfter.{sets-of, halves-of}
 use Rattle.name_plans.specs.Removed.{AreFreed, number_given}
 use Rattle.name_plans.specs.RemovingDirectory.{IsRmdir}
-use Rattle.name_plans.proofs.RemovingSets.{blocks-after, number-comes, number-stays}
+use Rattle.name_plans.proofs.RemovingSets.{keeps-changed, blocks-after, number-comes, number-stays}
 use Rattle.name_plans.proofs.RmdirAccepted.{IsTaking, rmdir-taking}
 use Rattle.name_plans.proofs.RmdirPlan.{rmdir-low}
 
@@ -67,9 +67,9 @@ module _ (image : Image) (dir : FileId) (name : List ℕ) (cred : Cred) (now : �
   isize = moved.isize
 
   numbers : (fresh : Bool) → nat_lt (unwrap_or (get (view image).generations i) 0) 4294967295 ≡ fresh → HoldsNumbers (frame last) (view last).generations (number_given fresh i inodes)
-  numbers true f = number-comes image last i dir.ino None left d n true strong strong_last isize files x.apart x.at x.at_node (rmdir-low image (call.Rmdir dir name, cred) now dir.ino name d k i n strong x) inside (λ _. refl) (λ e. absurd (clash refl e)) inodes sets.inodes_room
+  numbers true f = number-comes image last i None n true strong strong_last isize (keeps-changed (view image) (view last) i dir.ino None left d files x.apart x.at) x.at_node (rmdir-low image (call.Rmdir dir name, cred) now dir.ino name d k i n strong x) inside (λ _. refl) (λ e. absurd (clash refl e)) inodes sets.inodes_room
       halves.1 refl (below_of (unwrap_or (get (view image).generations i) 0) 4294967295 f)
-  numbers false f = number-stays image last i dir.ino None left d n true strong strong_last isize files x.apart x.at x.at_node (rmdir-low image (call.Rmdir dir name, cred) now dir.ino name d k i n strong x) inside (λ _. refl) (λ e. absurd (clash refl e)) inodes sets.inodes_room
+  numbers false f = number-stays image last i None n true strong strong_last isize (keeps-changed (view image) (view last) i dir.ino None left d files x.apart x.at) x.at_node (rmdir-low image (call.Rmdir dir name, cred) now dir.ino name d k i n strong x) inside (λ _. refl) (λ e. absurd (clash refl e)) inodes sets.inodes_room
       halves.1 (λ is. used_up is f)
     where
       used_up : IsFreeNumber (frame last) (view last).generations i → nat_lt (unwrap_or (get (view image).generations i) 0) 4294967295 ≡ false → ⊥

@@ -37,6 +37,16 @@ pub fn a_replacement_is_planned()
         → IsFreed (w.nlink == 1) r (frame image) (frame (put_all (replacing_puts image from.ino to.ino k l r b1 b2 before after bs cs b) image)) }
 {}
 
+/// After a RENAME onto a name that stands the sets of what is free are exact once they are given the blocks of a node that ended, and its i-number if its
+/// generation can go up.
+pub fn the_sets_follow_a_replacement()
+    ensures { (image : Image) (from to : FileId) (name new_name : List ℕ) (cred : Cred) (now i r k l : ℕ) (n w dp dq : Node) (puts : List (ℕ × List ℕ))
+        → IsStrong (frame image) → IsReplacement (view image) from to name new_name cred now i r k l n w dp dq
+        → IsPlanOf image ((Rename from name to new_name, cred) ∷ []) now puts → IsFreed (w.nlink == 1) r (frame image) (frame (put_all puts image))
+        → (freed : List ℕ) → AreFreed (w.nlink == 1) (frame image) r freed → (blocks inodes : List Bool) → AreSetsOf image blocks inodes
+        → AreSetsOf (put_all puts image) (given freed blocks) (number_given (frees_number (view image) r w) r inodes) }
+{}
+
 /// An accepted RENAME of what is no directory into an empty slot of another directory: the new slot's sector, the old slot's, then the inodes of the two
 /// directories with their times, in either order. A crash leaves the files before the call, or both names, or the files after it, but for times.
 pub fn a_move_in_place_is_planned()
