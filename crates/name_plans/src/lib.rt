@@ -22,5 +22,6 @@ pub use removing_directories::{
     a_removal_of_a_directory_is_planned, the_sets_follow_a_removal_of_a_directory,
 };
 pub use renaming::{
-    a_move_at_the_end_is_planned, a_move_in_place_is_planned, a_new_name_is_planned, a_replacement_is_planned, the_sets_follow_a_replacement,
+    a_move_at_the_end_is_planned, a_move_in_place_is_planned, a_new_name_is_planned,
+    a_replacement_is_planned, the_sets_follow_a_replacement,
 };
