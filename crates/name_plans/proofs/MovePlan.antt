@@ -1,4 +1,7 @@
 -- RENAME from one directory into another, as a plan.
+use Rattle.stable.specs.Puts.{put_all}
+use Rattle.v7_sets.specs.Sets.{AreSetsOf}
+use Rattle.name_plans.proofs.StayingSets.{sets-stay}
 use Rattle.std.proofs.Common.{◌≡◌, ◌≢◌, ℕ, ◌+◌, ◌/◌, ◌<◌, ◌≤◌, Bool, true, false, cond, List, [], ◌∷◌, length, get_or, set, refl, sym, ap, subst, ◌∙◌, arith, inl, inr, ⊎_elim, Option, Some, None, ltb, eq-eqb, length-set}
 use Rattle.std.proofs.lemmas.Bool.{cases_eq, ne_eqb, eqb-true}
 use Rattle.std.specs.FinMap.{get}
@@ -10,7 +13,7 @@ use Rattle.files_model.specs.Answers.{with_node}
 use Rattle.files_model.specs.Torn.{Asked, Torn, after_calls}
 use Rattle.stable.specs.Store.{Image}
 use Rattle.v7_map.specs.Image.{sector_at, inode_at, inode_sector}
-use Rattle.v7_map.specs.Frame.{Head, is_directory, frame}
+use Rattle.v7_map.specs.Frame.{Head, is_directory, frame, Frame, Place}
 use Rattle.v7_map.specs.Tree.{tree, is_walked, is_named, links, is_slot_of}
 use Rattle.v7_map.specs.View.{view}
 use Rattle.v7_map.specs.Weak.{IsWeak, IsStrong, slot_at}
@@ -36,7 +39,7 @@ use Rattle.v7_strokes.proofs.Changed.{changed-there, changed-other, changed-firs
 use Rattle.name_plans.proofs.RenameTorn.{third-here, third-second, third-first, third-other, third-middle, renamed-torn}
 use Rattle.v7_strokes.proofs.Slots.{plain-alike}
 use Rattle.v7_strokes.specs.Left.{one}
-use Rattle.v7_strokes.proofs.SlotStep.{step-weak, step-strong, step-links, step-heads, step-change, step-is_walked, entry-inside}
+use Rattle.v7_strokes.proofs.SlotStep.{step-weak, step-strong, step-links, step-heads, step-change, step-is_walked, entry-inside, step-sizes, step-addresses}
 use Rattle.v7_strokes.proofs.TornCalls.{IsAfter, same, times, torn-after, insert_again, insert_twice}
 use Rattle.v7_strokes.proofs.Views.{view-slot}
 use Rattle.files_model.specs.declared.call.Call.TheVariants as call
@@ -292,6 +295,19 @@ module _ (image : Image) (from to : FileId) (name new_name : List ℕ) (cred : C
     in_image : (m : Image) (j : ℕ) (b : List ℕ) (v : Inode) → IsWeak (frame m) → length m ≡ length image → PutsInode m j b v → inode_sector j < length image
     in_image m j b v w e puts = subst (λ x. inode_sector j < x) e (inode_sector-inside m w j puts.inside).2
 
+    -- blocks and used inodes stay through the slots and the times
+    sets_after : (m : Image) (y z : Node) → frame m ≡ frame second → view m ≡ three y z → (blocks inodes : List Bool) → AreSetsOf image blocks inodes → AreSetsOf m blocks inodes
+    unfolding three second first
+    sets_after m y z same_frame e blocks inodes sets =
+        let u = step-sizes image to.ino l (entry_sector image to.ino l) b1 (Some (i, new_name)) strong.weak move-first in
+        let v = step-sizes first from.ino k (entry_sector first from.ino k) b2 None weak_first move-second in
+        sets-stay image m blocks inodes
+        (ap (λ (f : Frame). f.isize) same_frame ∙ v.0 ∙ u.0, ap (λ (f : Frame). f.fsize) same_frame ∙ v.1 ∙ u.1)
+        (λ j q. ap (λ (f : Frame). f.address j q) same_frame ∙ step-addresses first from.ino k (entry_sector first from.ino k) b2 None weak_first move-second j q
+        ∙ step-addresses image to.ino l (entry_sector image to.ino l) b1 (Some (i, new_name)) strong.weak move-first j q)
+        (λ j. ap (λ (f : Frame). (f.head j).is_used) same_frame ∙ ap (λ (h : Head). h.is_used) (step-heads first from.ino k (entry_sector first from.ino k) b2 None weak_first move-second j ∙ heads_first j))
+        (ap (λ (f : Files). f.generations) e) sets
+
     -- the directory of the old name has the lower number
     module _ (b3 b4 : List ℕ)
         (p3 : PutsInode (set (set image (entry_sector image to.ino l) b1) (entry_sector (set image (entry_sector image to.ino l) b1) from.ino k) b2) from.ino b3
@@ -335,6 +351,11 @@ module _ (image : Image) (from to : FileId) (name new_name : List ℕ) (cred : C
             after = at_fourth.1 ∙ sym after';
           }
 
+      pub move-old_sets : (blocks inodes : List Bool) → AreSetsOf image blocks inodes → AreSetsOf (put_all ((entry_sector image to.ino l, b1) ∷ (entry_sector (set image (entry_sector image to.ino l) b1) from.ino k, b2) ∷ (inode_sector from.ino, b3) ∷ (inode_sector to.ino, b4) ∷ []) image) blocks inodes
+      unfolding third second first
+      move-old_sets = sets_after (set third (inode_sector to.ino) b4) timed left
+          (frame_after_times third to.ino slotted at_third.0.weak (at_q third slotted left at_third.1) b4 now p4 ∙ frame_after_times second from.ino emptied strong_second.weak (at_p second slotted emptied second_view) b3 now p3) at_fourth.1
+
     -- the directory of the new name has the lower number
     module _ (b3 b4 : List ℕ)
         (p3 : PutsInode (set (set image (entry_sector image to.ino l) b1) (entry_sector (set image (entry_sector image to.ino l) b1) from.ino k) b2) to.ino b3
@@ -377,3 +398,9 @@ module _ (image : Image) (from to : FileId) (name new_name : List ℕ) (cred : C
             strong = at_last.0;
             after = at_last.1 ∙ sym after';
           }
+
+      pub move-new_sets : (blocks inodes : List Bool) → AreSetsOf image blocks inodes
+          → AreSetsOf (put_all ((entry_sector image to.ino l, b1) ∷ (entry_sector (set image (entry_sector image to.ino l) b1) from.ino k, b2) ∷ (inode_sector to.ino, b3) ∷ (inode_sector from.ino, b4) ∷ []) image) blocks inodes
+      unfolding mid second first
+      move-new_sets = sets_after (set mid (inode_sector from.ino) b4) timed left
+          (frame_after_times mid from.ino emptied at_mid.0.weak (at_p mid timed emptied at_mid.1) b4 now p4 ∙ frame_after_times second to.ino slotted strong_second.weak (at_q second slotted emptied second_view) b3 now p3) at_last.1

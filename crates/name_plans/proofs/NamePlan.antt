@@ -1,4 +1,7 @@
 -- RENAME inside one directory to a name that is free, as a plan: the slot, the directory's times.
+use Rattle.stable.specs.Puts.{put_all}
+use Rattle.v7_sets.specs.Sets.{AreSetsOf}
+use Rattle.name_plans.proofs.StayingSets.{sets-stay}
 use Rattle.std.proofs.Common.{◌≡◌, ◌≢◌, ℕ, ◌<◌, ◌≤◌, Bool, true, false, cond, ◌||◌, List, [], ◌∷◌, length, get_or, set, refl, sym, ap, subst, ◌∙◌, arith, inl, inr, Some, None, ltb, length-set}
 use Rattle.std.specs.FinMap.{get}
 use Rattle.files_model.specs.Files.{Node, Files}
@@ -6,7 +9,7 @@ use Rattle.files_model.specs.Answers.{with_node}
 use Rattle.files_model.specs.Torn.{Asked, Torn, after_calls}
 use Rattle.stable.specs.Store.{Image}
 use Rattle.v7_map.specs.Image.{sector_at, inode_at, inode_sector}
-use Rattle.v7_map.specs.Frame.{Head, frame}
+use Rattle.v7_map.specs.Frame.{Head, frame, Frame}
 use Rattle.v7_map.specs.Tree.{tree, is_named, links, is_slot_of}
 use Rattle.v7_map.specs.View.{view, node_at}
 use Rattle.v7_map.specs.Weak.{IsWeak, IsStrong, slot_at}
@@ -25,7 +28,7 @@ use Rattle.v7_strokes.proofs.Directories.{StandsDir, stands-dir}
 use Rattle.v7_plans.proofs.Local.{strong_for, strong_of}
 use Rattle.v7_strokes.specs.Changes.{changed}
 use Rattle.v7_strokes.proofs.Changed.{changed-here, changed-again, torn-two}
-use Rattle.v7_strokes.proofs.SlotStep.{step-weak, step-strong, step-heads, step-links_other, step-is_walked, entry-inside}
+use Rattle.v7_strokes.proofs.SlotStep.{step-weak, step-strong, step-heads, step-links_other, step-is_walked, entry-inside, step-sizes, step-addresses}
 use Rattle.v7_strokes.proofs.TornCalls.{same, times, insert_again}
 use Rattle.v7_strokes.proofs.Views.{view-slot}
 
@@ -136,3 +139,14 @@ module _ (image : Image) (asked : Asked) (now p : ℕ) (name new_name : List ℕ
           strong = strong_second;
           after = view_second ∙ sym after;
         }
+
+    pub name-sets : (blocks inodes : List Bool) → AreSetsOf image blocks inodes → AreSetsOf (put_all (naming_puts image p k b1 b2) image) blocks inodes
+    unfolding second first
+    name-sets blocks inodes sets =
+        let same_frame : frame second ≡ frame first = frame_after_times first p slotted strong_first.weak at_first b2 now p2 in
+        let s = step-sizes image p k (entry_sector image p k) b1 (Some (i, new_name)) strong.weak name-entry in
+        sets-stay image second blocks inodes
+        (ap (λ (f : Frame). f.isize) same_frame ∙ s.0, ap (λ (f : Frame). f.fsize) same_frame ∙ s.1)
+        (λ j q. ap (λ (f : Frame). f.address j q) same_frame ∙ step-addresses image p k (entry_sector image p k) b1 (Some (i, new_name)) strong.weak name-entry j q)
+        (λ j. ap (λ (f : Frame). (f.head j).is_used) same_frame ∙ ap (λ (h : Head). h.is_used) (step-heads image p k (entry_sector image p k) b1 (Some (i, new_name)) strong.weak name-entry j))
+        (ap (λ (f : Files). f.generations) view_second) sets

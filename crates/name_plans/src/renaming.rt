@@ -48,14 +48,17 @@ pub fn the_sets_follow_a_replacement()
 {}
 
 /// An accepted RENAME of what is no directory into an empty slot of another directory: the new slot's sector, the old slot's, then the inodes of the two
-/// directories with their times, in either order. A crash leaves the files before the call, or both names, or the files after it, but for times.
+/// directories with their times, in either order. A crash leaves the files before the call, or both names, or the files after it, but for times. What is
+/// free stays.
 pub fn a_move_in_place_is_planned()
     ensures old_first { (image : Image) (from to : FileId) (name new_name : List ℕ) (cred : Cred) (now i k : ℕ) (n dp dq : Node) (b1 b2 b3 b4 : List ℕ)
         → IsStrong (frame image) → IsMoving (view image) from to name new_name cred now i k n dp dq → MovesInPlace image now from.ino to.ino k i new_name dq b1 b2 from.ino to.ino b3 b4
-        → IsPlanOf image ((Rename from name to new_name, cred) ∷ []) now (moving_puts image from.ino to.ino k dq b1 b2 from.ino to.ino b3 b4) }
+        → IsPlanOf image ((Rename from name to new_name, cred) ∷ []) now (moving_puts image from.ino to.ino k dq b1 b2 from.ino to.ino b3 b4)
+        × ((blocks inodes : List Bool) → AreSetsOf image blocks inodes → AreSetsOf (put_all (moving_puts image from.ino to.ino k dq b1 b2 from.ino to.ino b3 b4) image) blocks inodes) }
     ensures new_first { (image : Image) (from to : FileId) (name new_name : List ℕ) (cred : Cred) (now i k : ℕ) (n dp dq : Node) (b1 b2 b3 b4 : List ℕ)
         → IsStrong (frame image) → IsMoving (view image) from to name new_name cred now i k n dp dq → MovesInPlace image now from.ino to.ino k i new_name dq b1 b2 to.ino from.ino b3 b4
-        → IsPlanOf image ((Rename from name to new_name, cred) ∷ []) now (moving_puts image from.ino to.ino k dq b1 b2 to.ino from.ino b3 b4) }
+        → IsPlanOf image ((Rename from name to new_name, cred) ∷ []) now (moving_puts image from.ino to.ino k dq b1 b2 to.ino from.ino b3 b4)
+        × ((blocks inodes : List Bool) → AreSetsOf image blocks inodes → AreSetsOf (put_all (moving_puts image from.ino to.ino k dq b1 b2 to.ino from.ino b3 b4) image) blocks inodes) }
 {}
 
 /// An accepted RENAME of what is no directory whose new name makes another directory longer: the sector of the new slot and what else stands nowhere yet,
@@ -68,9 +71,12 @@ pub fn a_move_at_the_end_is_planned()
 {}
 
 /// An accepted RENAME inside one directory to a name that is free, of a file or a directory: the slot's sector, with the new name, and the directory's
-/// inode with its times. A crash leaves the files before the call, or those after it but for the directory's times.
+/// inode with its times. A crash leaves the files before the call, or those after it but for the directory's times. What is free stays.
 pub fn a_new_name_is_planned()
-    ensures { (image : Image) (from to : FileId) (name new_name : List ℕ) (cred : Cred) (now i k : ℕ) (n d : Node) (b1 b2 : List ℕ)
+    ensures planned { (image : Image) (from to : FileId) (name new_name : List ℕ) (cred : Cred) (now i k : ℕ) (n d : Node) (b1 b2 : List ℕ)
         → IsStrong (frame image) → IsNaming (view image) from to name new_name cred now i k n d → PutsName image now from.ino k i new_name b1 b2
         → IsPlanOf image ((Rename from name to new_name, cred) ∷ []) now (naming_puts image from.ino k b1 b2) }
+    ensures sets { (image : Image) (from to : FileId) (name new_name : List ℕ) (cred : Cred) (now i k : ℕ) (n d : Node) (b1 b2 : List ℕ)
+        → IsStrong (frame image) → IsNaming (view image) from to name new_name cred now i k n d → PutsName image now from.ino k i new_name b1 b2
+        → (blocks inodes : List Bool) → AreSetsOf image blocks inodes → AreSetsOf (put_all (naming_puts image from.ino k b1 b2) image) blocks inodes }
 {}
