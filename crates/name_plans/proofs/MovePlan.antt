@@ -13,7 +13,7 @@ use Rattle.files_model.specs.Answers.{with_node}
 use Rattle.files_model.specs.Torn.{Asked, Torn, after_calls}
 use Rattle.stable.specs.Store.{Image}
 use Rattle.v7_map.specs.Image.{sector_at, inode_at, inode_sector}
-use Rattle.v7_map.specs.Frame.{Head, is_directory, frame, Frame, Place}
+use Rattle.v7_map.specs.Frame.{Head, is_directory, frame, Frame}
 use Rattle.v7_map.specs.Tree.{tree, is_walked, is_named, links, is_slot_of}
 use Rattle.v7_map.specs.View.{view}
 use Rattle.v7_map.specs.Weak.{IsWeak, IsStrong, slot_at}

@@ -1,11 +1,7 @@
 -- What the step of an accepted REMOVE is, and what is known of its slot and nodes.
-use Rattle.std.proofs.Common.{◌≡◌, ◌≢◌, ◌⊎◌, ℕ, ◌-◌, ◌<◌, ◌≤◌, true, false, not, ◌||◌, if◌then◌else◌, List, [], ◌∷◌, length, get_or, refl, sym, ap, subst, ◌∙◌, arith, inl, inr, ⊎_elim, eqb, ltb, Some, None}
-use Rattle.std.proofs.lemmas.Bool.{cases_eq}
-use Rattle.std.proofs.lemmas.List.Quantifiers.{position-Some}
-use Rattle.std.proofs.lemmas.Slice.Eq.{bytes_eq-Decides}
+use Rattle.std.proofs.Common.{◌≡◌, ℕ, ◌-◌, ◌<◌, ◌≤◌, true, false, not, ◌||◌, if◌then◌else◌, List, [], ◌∷◌, length, get_or, refl, ap, ◌∙◌, eqb, ltb, Some, None}
 use Rattle.std.specs.FinMap.{get, remove}
 use Rattle.std.specs.List.{position}
-use Rattle.std.specs.Str.{bytes_eq}
 use Rattle.files_model.specs.declared.attributes.FileId.{FileId}
 use Rattle.files_model.specs.declared.credential.Cred.{Cred}
 use Rattle.files_model.specs.declared.call.Call.TheVariants as call
@@ -13,9 +9,9 @@ use Rattle.files_model.specs.declared.reply.Reply.{Reply}
 use Rattle.files_model.specs.declared.reply.Reply.TheVariants as reply
 use Rattle.files_model.specs.declared.reply.Stat.TheVariants as stat
 use Rattle.files_model.specs.Answers.{at_live, unless, first_of, with_node}
-use Rattle.files_model.specs.Files.{Node, Files, Slot}
+use Rattle.files_model.specs.Files.{Node, Files}
 use Rattle.files_model.specs.NameRows.{remove_row, remove_tests, loss_tests, less_link}
-use Rattle.files_model.specs.Names.{at_node, at_slot, without_entry, name_tests, is_bad, is_dots, has_name, number_of, number_at, most_name, may_change}
+use Rattle.files_model.specs.Names.{at_node, at_slot, without_entry, name_tests, is_bad, is_dots, has_name, number_at, most_name, may_change}
 use Rattle.files_model.specs.Permission as permission
 use Rattle.files_model.specs.Step.{step}
 use Rattle.files_model.specs.Torn.{after_calls}
@@ -23,12 +19,11 @@ use Rattle.stable.specs.Store.{Image}
 use Rattle.v7_map.specs.Frame.{frame}
 use Rattle.v7_map.specs.Tree.{tree}
 use Rattle.v7_map.specs.View.{view}
-use Rattle.v7_map.specs.Weak.{IsStrong, slot_at, HasDots, parent}
+use Rattle.v7_map.specs.Weak.{IsStrong, slot_at}
 use Rattle.v7_map.proofs.Nodes.{live-node}
 use Rattle.v7_strokes.specs.Changes.{changed}
 use Rattle.v7_strokes.proofs.Directories.{StandsDir, stands-dir}
 use Rattle.v7_strokes.proofs.Loser.{lost_of}
-use Rattle.v7_strokes.proofs.Names.{some_slot}
 use Rattle.name_plans.specs.Removing.{IsRemoval}
 use Rattle.name_plans.proofs.CreatingAccepted.{first_none}
 use Rattle.name_plans.proofs.CreatingInPlace.{not_no}

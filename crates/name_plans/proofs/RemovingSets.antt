@@ -1,10 +1,9 @@
 -- What is free after a removal: the blocks of a node that ended, and its i-number.
-use Rattle.std.proofs.Common.{◌≡◌, ◌≢◌, ℕ, ◌+◌, ◌-◌, ◌^◌, ◌<◌, ◌≤◌, Bool, true, false, ◌==◌, ◌&&◌, if◌then◌else◌, List, [], ◌∷◌, length, set, refl, sym, ap, subst, ◌∙◌, arith, inl, inr, ⊎_elim, ltb, nat_lt, Option, Some, None, unwrap_or, length-set, get_or-set_other, get_or-set_same}
+use Rattle.std.proofs.Common.{◌≡◌, ◌≢◌, ℕ, ◌+◌, ◌-◌, ◌^◌, ◌<◌, ◌≤◌, Bool, true, false, ◌==◌, ◌&&◌, if◌then◌else◌, List, length, set, refl, sym, ap, subst, ◌∙◌, arith, inl, inr, ⊎_elim, ltb, nat_lt, Option, Some, None, unwrap_or, length-set, get_or-set_other, get_or-set_same}
 use Rattle.std.proofs.lemmas.Bool.{cases_eq, cases_Bool}
 use Rattle.std.specs.FinMap.{get}
 use Rattle.files_model.specs.declared.attributes.FileId.{FileId}
 use Rattle.files_model.specs.declared.credential.Cred.{Cred}
-use Rattle.files_model.specs.declared.call.Call.TheVariants as call
 use Rattle.files_model.specs.Among.{is_among}
 use Rattle.files_model.specs.Files.{Node, Files}
 use Rattle.index_sets.specs.Free.{is_free}
@@ -15,7 +14,6 @@ use Rattle.v7_map.specs.Frame.{Frame, Place, frame}
 use Rattle.v7_map.specs.Tree.{tree}
 use Rattle.v7_map.specs.View.{view}
 use Rattle.v7_map.specs.Weak.{IsWeak, IsStrong}
-use Rattle.v7_map.specs.Plans.{IsPlanOf}
 use Rattle.v7_map.proofs.AnyFrame.{frame-IsFrame}
 use Rattle.v7_map.proofs.Nodes.{view-node}
 use Rattle.v7_map.proofs.Used.{named_used}
