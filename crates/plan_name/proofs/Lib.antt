@@ -1,6 +1,15 @@
 mod Bytes
 mod Past
 mod RemovingBuilt
+mod RemovingJudged
+mod BlocksOf
+mod RemovingPlanned
 mod Fitting
 mod CreatingBuilt
 mod CreatingLaid
+mod Usable
+mod DirectoryUsage
+mod Judged
+mod Made
+mod NewInPlace
+mod StandingPlan

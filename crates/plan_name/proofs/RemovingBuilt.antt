@@ -19,13 +19,15 @@ use Rattle.v7_strokes.specs.Entries.{entry_sector}
 use Rattle.v7_strokes.specs.Inodes.{timed_inode, loser_inode, ended_inode, unlinked_inode}
 use Rattle.v7_strokes.specs.Merged.{merged}
 use Rattle.v7_strokes.specs.Slots.{PutsSlot}
-use Rattle.v7_strokes.proofs.Merging.{merged-all, merged-plan, merged-with}
+use Rattle.v7_strokes.proofs.Merging.{merged-all, merged-plan, merged-with, length-with_put}
 use Rattle.name_plans.specs.Removed.{frees_number, number_given}
 use Rattle.name_plans.specs.Removing.{TakesName, removing_puts}
 use Rattle.name_plans.proofs.RemovingAccepted.{removal-dir, removal-slot}
 use Rattle.name_plans.proofs.RemovingPlan.{removal-plan, removal-past_list}
 use Rattle.name_plans.proofs.RemovingSets.{removal-sets}
-use Rattle.plan_name.specs.Removals.{Takes, IsPlannedRemoval}
+use Rattle.plan_name.specs.Creating.{CanBePut}
+use Rattle.plan_name.specs.Removals.{Takes, IsPlannedRemoval, TakenWithin}
+use Rattle.plan_name.proofs.Fitting.{all-with_put}
 use Rattle.plan_name.specs.declared.removing_puts.Taking.{Taking}
 use Rattle.plan_name.proofs.Past.{still, is_number}
 
@@ -48,8 +50,8 @@ module _ (image : Image) (dir : FileId) (name : List ℕ) (cred : Cred) (now : �
   at_dir : is_inode image dir.ino ≡ true
   at_dir = let r = (frame-IsFrame image).numbers dir.ino ((frame-IsFrame image).directories dir.ino (removal-dir image dir name cred now d t.index t.node n strong x.removal).dir) in is_number image dir.ino r.0 r.1
 
-  at_node : is_inode image t.node ≡ true
-  at_node = let r = (frame-IsFrame image).numbers t.node (strong.weak.names.used dir.ino t.index t.node name (removal-dir image dir name cred now d t.index t.node n strong x.removal).walked (removal-slot image dir name cred now d t.index t.node n strong x.removal)).0 in is_number image t.node r.0 r.1
+  pub removed-number : is_inode image t.node ≡ true
+  removed-number = let r = (frame-IsFrame image).numbers t.node (strong.weak.names.used dir.ino t.index t.node name (removal-dir image dir name cred now d t.index t.node n strong x.removal).walked (removal-slot image dir name cred now d t.index t.node n strong x.removal)).0 in is_number image t.node r.0 r.1
 
   -- a plan of these puts, merged
   planned : (before after : List ℕ) (b1 : List ℕ) (bs cs : List (List ℕ)) (b : List ℕ) → TakesName image now dir.ino t.index t.node n before after b1 bs cs b
@@ -97,7 +99,7 @@ module _ (image : Image) (dir : FileId) (name : List ℕ) (cred : Cred) (now : �
       node' = lost (set (set image (entry_sector image dir.ino t.index) b1) (inode_sector dir.ino) b2) b3
           (subst (λ q. is_inode q t.node ≡ true → PutsInode q t.node b3 (loser q))
           (after_two image (entry_sector image dir.ino t.index) b1 (inode_sector dir.ino, b2) (inode_sector t.node, b3) im1 im2 e1 e2 plan1 plan2 plan3 l1' l2' l3) node
-          (still image ((entry_sector image dir.ino t.index, b1) ∷ (inode_sector dir.ino, b2) ∷ []) t.node (past, (omega arith, tt)) at_node))
+          (still image ((entry_sector image dir.ino t.index, b1) ∷ (inode_sector dir.ino, b2) ∷ []) t.node (past, (omega arith, tt)) removed-number))
 
       pub built-directory_first : IsPlannedRemoval image dir name cred now n t plan3
       built-directory_first = subst (IsPlannedRemoval image dir name cred now n t)
@@ -113,7 +115,7 @@ module _ (image : Image) (dir : FileId) (name : List ℕ) (cred : Cred) (now : �
       node_n = lost (set image (entry_sector image dir.ino t.index) b1) b2
           (subst (λ q. is_inode q t.node ≡ true → PutsInode q t.node b2 (loser q))
           (after_slot image (entry_sector image dir.ino t.index) b1 (inode_sector t.node, b2) (inode_sector dir.ino, b3) im1 im2 e1 e2 plan1 plan2 plan3 l1' l2 l3n) node
-          (still image ((entry_sector image dir.ino t.index, b1) ∷ []) t.node (past, tt) at_node))
+          (still image ((entry_sector image dir.ino t.index, b1) ∷ []) t.node (past, tt) removed-number))
 
       times_n : PutsInode (set (set image (entry_sector image dir.ino t.index) b1) (inode_sector t.node) b2) dir.ino b3 (timed_inode (inode_at (set (set image (entry_sector image dir.ino t.index) b1) (inode_sector t.node) b2) dir.ino) now)
       times_n = subst (λ q. is_inode q dir.ino ≡ true → PutsInode q dir.ino b3 (timed_inode (inode_at q dir.ino) now))
@@ -125,3 +127,12 @@ module _ (image : Image) (dir : FileId) (name : List ℕ) (cred : Cred) (now : �
       built-node_first = subst (IsPlannedRemoval image dir name cred now n t)
           (sym (three image (entry_sector image dir.ino t.index) b1 (inode_sector t.node, b2) (inode_sector dir.ino, b3) im1 im2 e1 e2 plan1 plan2 plan3 l1' l2 l3n))
           (planned [] (dir.ino ∷ []) b1 [] (b3 ∷ []) b2 (record { entry = slot'; one = refl; first = tt; node = node_n; last = (times_n, tt) }))
+
+-- the puts can be put
+pub fits-removal : (sectors : ℕ) (t : Taking) → TakenWithin sectors t → (b1 : List ℕ) (x y : ℕ × List ℕ) → 2 ≤ x.0 → x.0 < sectors → 2 ≤ y.0 → y.0 < sectors → CanBePut sectors 3 (with_put (with_put ((t.sector, b1) ∷ []) x) y)
+fits-removal sectors t within b1 x y px sx py sy =
+    let one = length-with_put ((t.sector, b1) ∷ []) x in let two = length-with_put (with_put ((t.sector, b1) ∷ []) x) y in record {
+      few = omega arith;
+      stand = all-with_put (λ (p : ℕ × List ℕ). p.0 < sectors) (with_put ((t.sector, b1) ∷ []) x) y (all-with_put (λ (p : ℕ × List ℕ). p.0 < sectors) ((t.sector, b1) ∷ []) x (within.slot, tt) sx) sy;
+      past = all-with_put (λ (p : ℕ × List ℕ). 2 ≤ p.0) (with_put ((t.sector, b1) ∷ []) x) y (all-with_put (λ (p : ℕ × List ℕ). 2 ≤ p.0) ((t.sector, b1) ∷ []) x (within.past, tt) px) py;
+    }

@@ -1,9 +1,15 @@
 -- What a builder is told of a creation, and what its plan comes to.
-use Rattle.std.specs.Prelude.{◌≡◌, ◌<◌, ◌≤◌, ℕ, ◌+◌, ◌/◌, ◌==◌, Bool, false, List, [], ◌∷◌, length, get_or, set, Option, Some, None, IfSome}
+use Rattle.std.specs.Prelude.{◌≡◌, ◌<◌, ◌≤◌, ℕ, ◌+◌, ◌-◌, ◌^◌, ◌/◌, ◌==◌, Bool, false, List, [], ◌∷◌, length, get_or, set, Option, Some, None, IfSome}
 use Rattle.std.specs.Option.{unwrap_or}
 use Rattle.std.specs.FinMap.{get}
+use Rattle.files_model.specs.declared.attributes.Sattr.{Sattr}
+use Rattle.files_model.specs.declared.credential.Cred.{Cred}
+use Rattle.files_model.specs.declared.reply.Reply.{Reply}
+use Rattle.files_model.specs.declared.reply.Reply.TheVariants as reply
+use Rattle.files_model.specs.Answers.{attr_of}
 use Rattle.files_model.specs.Files.{Node}
-use Rattle.files_model.specs.Names.{place_for}
+use Rattle.files_model.specs.Names.{place_for, new_file}
+use Rattle.files_model.specs.Space.{size_limit}
 use Rattle.files_model.specs.Torn.{Asked}
 use Rattle.name_plans.specs.Lengthening.{MapPuts}
 use Rattle.name_plans.specs.Making.{IsMaking}
@@ -12,10 +18,11 @@ use Rattle.stable.specs.Puts.{put_all, AllStand, AllPastSuperBlock}
 use Rattle.stable.specs.Store.{Image}
 use Rattle.v7_layout.specs.declared.inode.Inode.{Inode}
 use Rattle.v7_map.specs.Frame.{Place, Body, Single, frame}
-use Rattle.v7_map.specs.Image.{inode_sector}
+use Rattle.v7_map.specs.Image.{inode_at, inode_sector}
 use Rattle.v7_map.specs.Plans.{IsPlanOf}
 use Rattle.v7_map.specs.View.{view}
 use Rattle.v7_sets.specs.Sets.{AreSetsOf}
+use Rattle.v7_strokes.specs.Entries.{entry_sector}
 use Rattle.v7_strokes.specs.NewNodes.{IsNewFile}
 use Rattle.v7_strokes.specs.Over.{slot_from}
 use Rattle.v7_strokes.specs.Targets.{IsTarget}
@@ -31,6 +38,19 @@ pub record Makes (image : Image) (asked : Asked) (now i : ℕ) (inode : Inode) (
   pub raised : inode.generation ≡ unwrap_or (get (view image).generations i) 0 + 1
   pub place : entry.index ≡ place_for d.slots
   pub slot : slot_from entry.slot ≡ Some (i, name)
+
+-- A new regular file may be made as i, by an entry in an empty slot of directory p, which stands in this sector.
+pub record FitsIn (image : Image) (asked : Asked) (now p i index sector : ℕ) (name : List ℕ) (wanted : Sattr) (cred : Cred) (d : Node) : Type 0 where
+  pub making : IsMaking (view image) asked now p name d i (new_file wanted cred now)
+  pub size : unwrap_or wanted.size 0 ≤ size_limit
+  pub place : index ≡ place_for d.slots
+  pub inside : index < length d.slots
+  pub stands : sector ≡ entry_sector image p index
+  pub fresh : (inode_at image i).generation < 2 ^ 32 - 1
+
+-- what answers a call that made node m as i
+abbrev pub made_answer : Image → ℕ → Node → Reply
+made_answer image i m = reply.Handle (record { ino = i; generation = unwrap_or (get (view image).generations i) 0 + 1 }) (attr_of i m)
 
 -- The puts are the plan of the call, and afterwards the sets are exact without i-number i and these blocks.
 pub record IsPlannedMaking (image : Image) (asked : Asked) (now i : ℕ) (new : List ℕ) (puts : List (ℕ × List ℕ)) : Type 0 where

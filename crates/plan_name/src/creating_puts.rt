@@ -72,7 +72,12 @@ pub fn add_in_place<S: Stable>(
 }
 
 // The sector of a slot, as it will be after the plan so far; zeros where it is new.
-fn slot_sector<S: Stable>(store: &mut S, plan: &Plan, sector: u32, fresh: bool) -> Result<[u8; 512], Failed>
+fn slot_sector<S: Stable>(
+    store: &mut S,
+    plan: &Plan,
+    sector: u32,
+    fresh: bool,
+) -> Result<[u8; 512], Failed>
     requires { sector < S.sector_count store.old }
     ensures done { S.tells → IfOk result (λ bytes. bytes ≡ (if fresh then zeros else get_or (put_all plan.now.puts (S.image store.old)) sector [])) }
     ensures cause { HasCause (S.faults store.old) (S.faults store.new) result }
@@ -96,7 +101,12 @@ fn add_map(plan: &mut Plan, map: &Option<Listing>)
 }
 
 // Adds the put of the sector of a new slot.
-fn add_new_slot<S: Stable>(store: &mut S, plan: &mut Plan, entry: &Entry, fresh: bool) -> Result<[u8; 512], Failed>
+fn add_new_slot<S: Stable>(
+    store: &mut S,
+    plan: &mut Plan,
+    entry: &Entry,
+    fresh: bool,
+) -> Result<[u8; 512], Failed>
     requires room { length plan.old.puts < plan.old.room }
     requires place { entry.now.sector < S.sector_count store.old }
     ensures added { IfOk result (λ bytes. plan.new ≡ with_puts plan.old (plan.old.puts ++ (entry.now.sector, bytes) ∷ [])) }

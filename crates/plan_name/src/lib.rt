@@ -3,12 +3,28 @@
 
 mod creating_puts;
 mod growth;
+mod judging_removal;
+mod judging;
+mod making;
 mod names;
+mod new_in_place;
 mod new_node;
+mod planned;
+mod removing;
 mod removing_puts;
+mod standing;
 
 pub use creating_puts::{Entry, Listing, Longer, add_at_end, add_in_place};
 pub use growth::added_blocks;
+pub use judging::judge_new;
+pub use making::{Spot, make_in_place};
 pub use names::{create_refusal, entry_refusal, name_refusal, standing_refusal};
+pub use new_in_place::{PlannedNew, plan_new_in_place};
 pub use new_node::new_file;
 pub use removing_puts::{Taking, add_removal};
+pub use planned::{Freed, Planned};
+pub use removing::plan_remove;
+pub use standing::plan_standing;
+
+#[cfg(test)]
+mod tests;

@@ -43,7 +43,7 @@ has_some name None passes = absurd (cc)
 has_some name (Some e) passes = (e, refl)
 
 -- a look-up that isn't refused is in a directory
-kind_directory : (type : ℕ) → is_directory (kind_of type) ≡ (type == 4)
+pub kind_directory : (type : ℕ) → is_directory (kind_of type) ≡ (type == 4)
 kind_directory type = by_test (type == 4) (type == 10)
   where
     by_test : (a b : Bool) → is_directory (cond a Directory (cond b Link Regular)) ≡ a
@@ -51,7 +51,7 @@ kind_directory type = by_test (type == 4) (type == 10)
     by_test false true = refl
     by_test false false = refl
 
-first_passed : (a : Bool) (why : Stat) (rest : List (Bool × Stat)) → first_of ((not a, why) ∷ rest) ≡ None → a ≡ true
+pub first_passed : (a : Bool) (why : Stat) (rest : List (Bool × Stat)) → first_of ((not a, why) ∷ rest) ≡ None → a ≡ true
 first_passed true why rest e = refl
 first_passed false why rest e = absurd (cc)
 

@@ -1,0 +1,91 @@
+// The plan of a CREATE of a free name whose directory has an empty slot.
+
+ghost use Rattle.std.specs.Prelude.{◌≡◌, ◌≢◌, ◌<◌, ◌≤◌, [], length, true, false, All, IfOk, OnErr, IsErrOf};
+ghost use Rattle.files_model.specs.Files.{Node};
+ghost use Rattle.files_model.specs.Names.{place_for};
+ghost use Rattle.files_model.specs.declared.reply.Reply.TheVariants as reply;
+ghost use Rattle.plan_file.specs.declared.fault.PlanFault.TheVariants as fault;
+ghost use Rattle.plan_name.specs.Created.{CanBeNumber, IsFreeName, IsPlannedNew};
+ghost use Rattle.plan_name.specs.Creating.{CanBePut};
+ghost use Rattle.plan_name.specs.Judging.{IsTold};
+ghost use Rattle.stable.specs.Counts.{Rose};
+ghost use Rattle.stable.specs.Looked.{Looked};
+ghost use Rattle.v7_map.specs.Image.{inode_sector};
+ghost use Rattle.v7_map.specs.View.{view};
+ghost use Rattle.v7_strokes.specs.Entries.{entry_sector};
+
+use crate::judging::judge_new;
+use crate::making::{Spot, make_in_place};
+use files_model::{Attr, Cred, Name, Reply, Sattr, Stat};
+use plan_file::PlanFault;
+use stable::{Plan, Stable};
+use std::alloc::Global;
+use v7_map::inode_sector_of;
+use v7_sets::Sets;
+
+/// What a CREATE of a free name comes to: a plan, which is empty where it is refused, and its reply.
+#[derive(Drop)]
+pub struct PlannedNew {
+    pub plan: Plan,
+    pub reply: Reply,
+}
+
+// Nothing is planned, and this is the answer.
+fn refused(alloc: Global, status: Stat) -> PlannedNew
+    ensures plan { result.plan ≡ record { puts = []; room = 0 } }
+    ensures reply { result.reply ≡ reply.Refused status }
+{
+    PlannedNew {
+        plan: Plan::empty(alloc),
+        reply: Reply::Refused(status),
+    }
+}
+
+// Whether a store of so many sectors may have an inode of this number, which a slot can name.
+fn can_be_number(sectors: u32, ino: u32) -> bool
+    ensures yes { result ≡ true → CanBeNumber sectors ino }
+    ensures no { result ≡ false → CanBeNumber sectors ino → ⊥ }
+{
+    if ino == 0 {
+        return false;
+    }
+    if ino > 65_535 {
+        return false;
+    }
+    inode_sector_of(ino) < sectors
+}
+
+/// Plans a CREATE (RFC 1094 2.2.10) of a free name whose directory has an empty slot, by the directory's attributes: the new inode, the slot's sector, and
+/// the directory's inode with its times; nothing where it is refused. Nothing is put. All memory that the plan needs is taken here. The new i-number
+/// leaves the set of free ones; after a fault the sets are as they were.
+pub fn plan_new_in_place<S: Stable>(
+    alloc: Global,
+    store: &mut S,
+    sets: &mut Sets,
+    directory: &Attr,
+    spot: &Spot,
+    name: &Name,
+    wanted: &Sattr,
+    cred: &Cred,
+    now: u32,
+) -> Result<PlannedNew, PlanFault>
+    requires within { (inode_sector spot.now.directory.ino < S.sector_count store.old) × (spot.now.sector < S.sector_count store.old) × (2 ≤ spot.now.sector) }
+    requires named { (length name.now ≤ 14) × All (λ byte. byte ≢ 0) name.now }
+    ensures planned { S.tells → (d : Node) → IsTold (S.image store.old) spot.now.directory.ino d directory.now false sets.old.blocks sets.old.inodes → IsFreeName (view (S.image store.old)) spot.now.directory name.now wanted.now d → spot.now.index ≡ place_for d.slots → spot.now.sector ≡ entry_sector (S.image store.old) spot.now.directory.ino spot.now.index → IfOk result (λ r. IsPlannedNew (S.image store.old) spot.now.directory name.now wanted.now cred.now now sets.new r.plan.puts r.reply) }
+    ensures fits { IfOk result (λ r. CanBePut (S.sector_count store.old) 3 r.plan.puts) }
+    ensures kept { OnErr result (sets.new ≡ sets.old) }
+    ensures cause { IsErrOf result fault.Failed → Rose (S.faults store.old) (S.faults store.new) }
+    ensures looked { Looked S.Stable store.old store.new }
+{
+    let number = match judge_new(directory, false, sets, wanted, cred) {
+        Ok(number) => number,
+        Err(status) => return Ok(refused(alloc, status)),
+    };
+    if !can_be_number(store.sectors(), number) {
+        return Ok(refused(alloc, Stat::Io));
+    }
+    let mut plan = Plan::new(alloc, 3)?;
+    let reply = make_in_place(store, &mut plan, number, spot, name, wanted, cred, now)?;
+    sets.inodes.take(number);
+    Ok(PlannedNew { plan, reply })
+}

@@ -1,0 +1,70 @@
+// The plan of a CREATE with a set size whose name a regular file has.
+
+ghost use Rattle.std.specs.Prelude.{◌≡◌, ℕ, List, Some, IfOk, IsErrOf};
+ghost use Rattle.files_model.specs.Files.{Node};
+ghost use Rattle.files_model.specs.Names.{handle_of, size_alone};
+ghost use Rattle.files_model.specs.declared.attributes.FileId.{FileId};
+ghost use Rattle.files_model.specs.declared.attributes.Sattr.{Sattr};
+ghost use Rattle.name_plans.specs.Standing.{StandsAlready, with_handle};
+ghost use Rattle.plan_file.specs.Set.{CanBeSet};
+ghost use Rattle.plan_file.specs.declared.fault.PlanFault.TheVariants as fault;
+ghost use Rattle.plan_name.specs.Created.{IsPlannedSize};
+ghost use Rattle.stable.specs.Counts.{Rose};
+ghost use Rattle.stable.specs.Looked.{Looked};
+ghost use Rattle.v7_map.specs.Frame.{frame};
+ghost use Rattle.v7_map.specs.View.{view};
+ghost use Rattle.v7_map.specs.Weak.{IsStrong};
+
+use files_model::{Cred, FileId, Reply, Sattr};
+use plan_file::{PlanFault, PlannedSet, plan_setattr};
+use stable::Stable;
+use std::alloc::Global;
+
+// A size alone is set.
+fn size_alone(size: u32) -> Sattr
+    ensures { result ≡ size_alone size }
+{
+    Sattr {
+        mode: None,
+        uid: None,
+        gid: None,
+        size: Some(size),
+        atime: None,
+        mtime: None,
+    }
+}
+
+// The attributes of a file as an answer that has its handle.
+fn with_handle(file: FileId, reply: Reply) -> Reply
+    ensures { result ≡ with_handle file reply }
+{
+    match reply {
+        Reply::Attr(attr) => Reply::Handle { file, attr },
+        other => other,
+    }
+}
+
+/// Plans a CREATE with a set size whose name a regular file has, as a SETATTR of that size alone (RFC 1094 2.2.10, 2.2.3): ACCES where the caller may not
+/// write the file, FBIG above 70,656 bytes. It answers the file's handle and attributes. Nothing is put. The blocks that are freed may go back to the
+/// sets once the whole plan is put, and not before.
+pub fn plan_standing<S: Stable>(
+    alloc: Global,
+    store: &mut S,
+    file: FileId,
+    size: u32,
+    cred: &Cred,
+    now: u32,
+) -> Result<PlannedSet, PlanFault>
+    ensures planned { S.tells → IsStrong (frame (S.image store.old)) → (dir : FileId) (name : List ℕ) (wanted : Sattr) (d : Node) (k : ℕ) (n : Node) → StandsAlready (view (S.image store.old)) dir name wanted d k file.ino n → file ≡ handle_of (view (S.image store.old)) file.ino → wanted.size ≡ Some size → IfOk result (λ r. IsPlannedSize (S.image store.old) dir name wanted cred.now now r.plan.puts r.reply r.freed.items) }
+    ensures fits { IfOk result (λ r. CanBeSet (S.sector_count store.old) 2 r.plan) }
+    ensures cause { IsErrOf result fault.Failed → Rose (S.faults store.old) (S.faults store.new) }
+    ensures looked { Looked S.Stable store.old store.new }
+{
+    let set = size_alone(size);
+    let planned = plan_setattr(alloc, store, file, &set, cred, now)?;
+    Ok(PlannedSet {
+        plan: planned.plan,
+        reply: with_handle(file, planned.reply),
+        freed: planned.freed,
+    })
+}

@@ -1,0 +1,219 @@
+//! New files on a small volume: a root, inode 2, whose three slots stand in sector 4, and file 3 with its name in slot 2.
+
+use super::*;
+use files_model::{Attr, Cred, FileId, Gids, Kind, Name, Reply, Sattr, Stat};
+use stable::{Failed, Plan, Stable};
+use std::alloc::Global;
+use std::test::Fail;
+use store_mem::Memory;
+use v7_map::inode_in;
+use v7_sets::Sets;
+use v7_strokes::{Blocks, slot_of};
+use volume_mem::{FRESH, test_volume};
+
+const NOTHING: Sattr = Sattr {
+    mode: None,
+    uid: None,
+    gid: None,
+    size: None,
+    atime: None,
+    mtime: None,
+};
+
+// User and group 100.
+fn caller() -> Cred {
+    Cred {
+        uid: 100,
+        gid: 100,
+        gids: Gids::copy(&[]),
+    }
+}
+
+fn volume(alloc: Global) -> Result<Memory, Fail> {
+    let mut sectors = test_volume(alloc, FRESH).map_err(|_| "memory")?;
+    // a store asks that its sectors can be numbered
+    sectors.truncate(64);
+    let store = Memory::new(alloc, sectors.as_slice()).map_err(|_| "memory")?;
+    Ok(store)
+}
+
+// File 4 is made at second 2000, in slot `index` of the root.
+fn make<S: Stable>(store: &mut S, plan: &mut Plan, index: u32) -> Result<(), Failed> {
+    if store.sectors() < 64 || plan.room() < 4 || plan.puts().len() > 0 {
+        return Err(Failed);
+    }
+    let inode = new_file(&NOTHING, &caller(), 2000, 1);
+    let entry = Entry {
+        directory: 2,
+        index,
+        sector: 4,
+        slot: slot_of(4, b"new"),
+    };
+    if index < 3 {
+        return add_in_place(store, plan, 4, &inode, &entry, 2000);
+    }
+    let blocks = Blocks {
+        direct: [4, 0, 0, 0, 0, 0, 0, 0, 0, 0],
+        single: 0,
+    };
+    let longer = Longer {
+        fresh: false,
+        map: None,
+        blocks,
+    };
+    add_at_end(store, plan, 4, &inode, &entry, &longer, 2000)
+}
+
+#[test]
+fn a_file_is_made_in_a_slot_and_at_the_end(rt: HostRuntime) -> Result<(), Fail> {
+    let alloc = rt.alloc();
+    let mut store = volume(alloc)?;
+    for (index, size) in [(2, 48), (3, 64)] {
+        let mut plan = Plan::new(alloc, 4).map_err(|_| "memory")?;
+        make(&mut store, &mut plan, index).map_err(|_| "store")?;
+        let puts = plan.puts();
+        assert!(rt; puts.len() == 3);
+        assert!(rt; puts[0].0 == 2 && puts[1].0 == 4 && puts[2].0 == 2);
+        let slots = puts[1].1;
+        let at = 16 * index as usize;
+        assert!(rt; at < 64 && slots[at] == 4 && slots[at + 2] == b'n' && slots[at + 5] == 0);
+        let file = inode_in(&puts[0].1, 4);
+        assert!(rt; file.mode == 0o100_666 && file.nlink == 1 && file.uid == 100 && file.size == 0);
+        let root = inode_in(&puts[2].1, 2);
+        assert!(rt;
+            root.size == size && root.mtime == 2000 && root.ctime == 2000 && root.atime == 1000
+        );
+    }
+    Ok(())
+}
+
+// A file is made at second 2000 in slot 2 of the root.
+fn plan_first(alloc: Global, store: &mut Memory, sets: &mut Sets) -> Result<PlannedNew, Fail> {
+    if store.sectors() < 64 {
+        return Err("no volume".into());
+    }
+    let root = FileId {
+        ino: 2,
+        generation: 1,
+    };
+    let spot = Spot {
+        directory: root,
+        index: 2,
+        sector: 4,
+    };
+    let name = Name::copy(b"new");
+    let planned = plan_new_in_place(
+        alloc,
+        store,
+        sets,
+        &directory(48),
+        &spot,
+        &name,
+        &NOTHING,
+        &caller(),
+        2000,
+    );
+    Ok(planned.map_err(|_| "not planned")?)
+}
+
+#[test]
+fn a_number_is_taken_once(rt: HostRuntime) -> Result<(), Fail> {
+    let alloc = rt.alloc();
+    let mut store = volume(alloc)?;
+    let mut sets = Sets::new(alloc, 64, 17).map_err(|_| "memory")?;
+    sets.inodes.give(5);
+    let first = plan_first(alloc, &mut store, &mut sets)?;
+    assert!(rt; first.plan.puts().len() == 3 && sets.inodes.count() == 0);
+    let Reply::Handle { file, attr } = first.reply else {
+        return Err("no handle".into());
+    };
+    assert!(rt; file.ino == 5 && file.generation == 1 && attr.fileid == 5 && attr.mode == 0o666);
+    let second = plan_first(alloc, &mut store, &mut sets)?;
+    assert!(rt; second.plan.puts().len() == 0);
+    assert!(rt; matches!(second.reply, Reply::Refused(Stat::Nospc)));
+    Ok(())
+}
+
+#[test]
+fn a_file_that_stands_gets_its_size(rt: HostRuntime) -> Result<(), Fail> {
+    let alloc = rt.alloc();
+    let mut store = volume(alloc)?;
+    let file = FileId {
+        ino: 3,
+        generation: 1,
+    };
+    let planned = plan_standing(alloc, &mut store, file, 0, &caller(), 2000);
+    let planned = planned.map_err(|_| "not planned")?;
+    assert!(rt; planned.plan.puts().len() == 1 && planned.freed.len() == 2);
+    assert!(rt; matches!(planned.reply, Reply::Handle { .. }));
+    Ok(())
+}
+
+fn named(bytes: &[u8]) -> Name {
+    if bytes.len() > 255 {
+        return Name::copy(b"too long");
+    }
+    Name::copy(bytes)
+}
+
+#[test]
+fn names_are_refused_in_order(rt: HostRuntime) -> Result<(), Fail> {
+    for (name, refusal) in [
+        (b"fourteen bytes".as_slice(), None),
+        (b"fifteen bytes..".as_slice(), Some(Stat::Nametoolong)),
+        (b"fifteen/bytes..".as_slice(), Some(Stat::Acces)),
+        (b"..".as_slice(), Some(Stat::Acces)),
+        (b"".as_slice(), Some(Stat::Acces)),
+    ] {
+        assert_eq!(rt; name_refusal(&named(name)), refusal);
+    }
+    let device = create_refusal(false, Kind::Directory, &named(b"f"), Some(0o020_644));
+    assert_eq!(rt; device, Some(Stat::Perm));
+    Ok(())
+}
+
+// A directory of user 100.
+fn directory(size: u32) -> Attr {
+    Attr {
+        kind: Kind::Directory,
+        mode: 0o755,
+        nlink: 2,
+        uid: 100,
+        gid: 100,
+        size,
+        fileid: 2,
+        atime: 1000,
+        mtime: 1000,
+        ctime: 1000,
+    }
+}
+
+#[test]
+fn a_full_sector_takes_a_free_block(rt: HostRuntime) -> Result<(), Fail> {
+    let mut sets = Sets::new(rt.alloc(), 64, 17).map_err(|_| "memory")?;
+    let full = directory(512);
+    assert_eq!(rt;
+        judge_new(&full, true, &sets, &NOTHING, &caller()),
+        Err(Stat::Nospc)
+    );
+    sets.inodes.give(5);
+    sets.inodes.give(4);
+    assert_eq!(rt;
+        judge_new(&full, true, &sets, &NOTHING, &caller()),
+        Err(Stat::Nospc)
+    );
+    assert_eq!(rt; judge_new(&full, false, &sets, &NOTHING, &caller()), Ok(4));
+    sets.blocks.give(9);
+    assert_eq!(rt; judge_new(&full, true, &sets, &NOTHING, &caller()), Ok(4));
+    let eleventh = directory(5120);
+    assert_eq!(rt;
+        judge_new(&eleventh, true, &sets, &NOTHING, &caller()),
+        Err(Stat::Nospc)
+    );
+    let longest = directory(70_656);
+    assert_eq!(rt;
+        judge_new(&longest, true, &sets, &NOTHING, &caller()),
+        Err(Stat::Fbig)
+    );
+    Ok(())
+}
