@@ -31,26 +31,26 @@ use Rattle.name_plans.specs.Lengthening.{MapPuts, same, changed, PutsLonger}
 -- ---- the blocks of an inode
 
 module _ (image : Image) (h : Head) (used : h.is_used ≡ true) where
-  place-direct : (l : ℕ) → l < 10 → address_of image h (Body l) ≡ get_or h.direct l 0
+  pub place-direct : (l : ℕ) → l < 10 → address_of image h (Body l) ≡ get_or h.direct l 0
   unfolding address_of
   place-direct l lt = let b : ltb l 10 ≡ true = grind arith in
       (λ z. cond (used z) (cond (b z) (get_or h.direct l 0) (cond (ltb l 138) (listed image h.single (l - 10)) 0)) 0)
 
-  place-listed : (l : ℕ) → 10 ≤ l → l < 138 → address_of image h (Body l) ≡ listed image h.single (l - 10)
+  pub place-listed : (l : ℕ) → 10 ≤ l → l < 138 → address_of image h (Body l) ≡ listed image h.single (l - 10)
   unfolding address_of
   place-listed l ge lt = let b : ltb l 10 ≡ false = grind arith in let c : ltb l 138 ≡ true = grind arith in
       (λ z. cond (used z) (cond (b z) (get_or h.direct l 0) (cond (c z) (listed image h.single (l - 10)) 0)) 0)
 
-  place-past : (l : ℕ) → 138 ≤ l → address_of image h (Body l) ≡ 0
+  pub place-past : (l : ℕ) → 138 ≤ l → address_of image h (Body l) ≡ 0
   unfolding address_of
   place-past l le = let b : ltb l 10 ≡ false = grind arith in let c : ltb l 138 ≡ false = grind arith in
       (λ z. cond (used z) (cond (b z) (get_or h.direct l 0) (cond (c z) (listed image h.single (l - 10)) 0)) 0)
 
-  place-single : address_of image h Single ≡ h.single
+  pub place-single : address_of image h Single ≡ h.single
   unfolding address_of
   place-single = ap (λ u. cond u h.single 0) used
 
-  place-double : address_of image h Double ≡ h.double
+  pub place-double : address_of image h Double ≡ h.double
   unfolding address_of
   place-double = ap (λ u. cond u h.double 0) used
 

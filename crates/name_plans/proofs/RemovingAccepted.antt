@@ -1,11 +1,7 @@
 -- What the step of an accepted REMOVE is, and what is known of its slot and nodes.
-use Rattle.std.proofs.Common.{◌≡◌, ◌≢◌, ◌⊎◌, ℕ, ◌-◌, ◌<◌, ◌≤◌, true, false, not, ◌||◌, ◌==◌, if◌then◌else◌, List, [], ◌∷◌, length, get_or, refl, sym, ap, subst, ◌∙◌, arith, inl, inr, ⊎_elim, eqb, ltb, Option, Some, None}
-use Rattle.std.proofs.lemmas.Bool.{cases_eq}
-use Rattle.std.proofs.lemmas.List.Quantifiers.{position-Some}
-use Rattle.std.proofs.lemmas.Slice.Eq.{bytes_eq-Decides}
-use Rattle.std.specs.FinMap.{get, insert, remove}
+use Rattle.std.proofs.Common.{◌≡◌, ℕ, ◌-◌, ◌<◌, ◌≤◌, true, false, not, ◌||◌, if◌then◌else◌, List, [], ◌∷◌, length, get_or, refl, ap, ◌∙◌, eqb, ltb, Some, None}
+use Rattle.std.specs.FinMap.{get, remove}
 use Rattle.std.specs.List.{position}
-use Rattle.std.specs.Str.{bytes_eq}
 use Rattle.files_model.specs.declared.attributes.FileId.{FileId}
 use Rattle.files_model.specs.declared.credential.Cred.{Cred}
 use Rattle.files_model.specs.declared.call.Call.TheVariants as call
@@ -13,9 +9,9 @@ use Rattle.files_model.specs.declared.reply.Reply.{Reply}
 use Rattle.files_model.specs.declared.reply.Reply.TheVariants as reply
 use Rattle.files_model.specs.declared.reply.Stat.TheVariants as stat
 use Rattle.files_model.specs.Answers.{at_live, unless, first_of, with_node}
-use Rattle.files_model.specs.Files.{Node, Files, Slot}
+use Rattle.files_model.specs.Files.{Node, Files}
 use Rattle.files_model.specs.NameRows.{remove_row, remove_tests, loss_tests, less_link}
-use Rattle.files_model.specs.Names.{at_node, at_slot, without_entry, name_tests, is_bad, is_dots, has_name, number_of, number_at, most_name, may_change}
+use Rattle.files_model.specs.Names.{at_node, at_slot, without_entry, name_tests, is_bad, is_dots, has_name, number_at, most_name, may_change}
 use Rattle.files_model.specs.Permission as permission
 use Rattle.files_model.specs.Step.{step}
 use Rattle.files_model.specs.Torn.{after_calls}
@@ -23,15 +19,15 @@ use Rattle.stable.specs.Store.{Image}
 use Rattle.v7_map.specs.Frame.{frame}
 use Rattle.v7_map.specs.Tree.{tree}
 use Rattle.v7_map.specs.View.{view}
-use Rattle.v7_map.specs.Weak.{IsStrong, slot_at, HasDots, parent}
+use Rattle.v7_map.specs.Weak.{IsStrong, slot_at}
 use Rattle.v7_map.proofs.Nodes.{live-node}
 use Rattle.v7_strokes.specs.Changes.{changed}
 use Rattle.v7_strokes.proofs.Directories.{StandsDir, stands-dir}
 use Rattle.v7_strokes.proofs.Loser.{lost_of}
-use Rattle.v7_strokes.proofs.Names.{some_slot}
 use Rattle.name_plans.specs.Removing.{IsRemoval}
 use Rattle.name_plans.proofs.CreatingAccepted.{first_none}
 use Rattle.name_plans.proofs.CreatingInPlace.{not_no}
+use Rattle.name_plans.proofs.NamedSlots.{named-slot, named-past}
 
 pub removal-step : (files : Files) (dir : FileId) (name : List ℕ) (cred : Cred) (now : ℕ) (d : Node) (k i : ℕ) (n : Node) → IsRemoval files dir name cred d k i n
     → step files (call.Remove dir name) cred now ≡ (reply.Done, with_node (less_link files i n now) dir.ino (without_entry d k now))
@@ -62,38 +58,18 @@ module _ (image : Image) (dir : FileId) (name : List ℕ) (cred : Cred) (now : �
   pub removal-file : permission.is_directory n.kind ≡ false
   removal-file = (first_none (permission.is_directory n.kind) stat.Isdir ((not (may_change cred dir.ino d), stat.Acces) ∷ []) c.loss).0
 
-  place : (k < length d.slots) × (has_name name (get_or d.slots k None) ≡ true)
-  place = let r = position-Some (has_name name) d.slots k None c.slot in (r.0, r.1)
+  place : (k < length d.slots) × (get_or d.slots k None ≡ Some (i, name))
+  place = named-slot d.slots name k i c.slot c.number
 
   pub removal-inside : k < length d.slots
   removal-inside = place.0
 
-  named_slot : (s : Slot) → has_name name s ≡ true → number_of s ≡ i → s ≡ Some (i, name)
-  named_slot None h e = absurd (cc)
-  named_slot (Some (j, other)) h e = λ z. Some (e z, same_name other h z)
-    where
-      same_name : (other : List ℕ) → bytes_eq other name ≡ true → other ≡ name
-      same_name other h = (bytes_eq-Decides other name).0 h
-
   pub removal-slot : slot_at (tree (frame image)) dir.ino k ≡ Some (i, name)
-  removal-slot = ap (λ l. get_or l k None) removal-dir.slots ∙ named_slot (get_or d.slots k None) place.1 c.number
+  removal-slot = ap (λ l. get_or l k None) removal-dir.slots ∙ place.1
 
   -- it is past the first two, which are `.` and `..`
   pub removal-past : 2 ≤ k
-  removal-past = ⊎_elim
-      (λ (zero' : k ≡ 0). absurd (no_dots (46 ∷ []) (some_slot i dir.ino name (46 ∷ []) (sym removal-slot ∙ ap (slot_at (tree (frame image)) dir.ino) zero' ∙ dots.self)).1 (inl refl)))
-      (λ (nz : k ≢ 0). ⊎_elim
-      (λ (one' : k ≡ 1). absurd (no_dots (46 ∷ 46 ∷ []) (some_slot i (parent (tree (frame image)) dir.ino) name (46 ∷ 46 ∷ []) (sym removal-slot ∙ ap (slot_at (tree (frame image)) dir.ino) one' ∙ dots.up)).1 (inr refl)))
-      (λ (no' : k ≢ 1). omega arith)
-      (cases_eq k 1))
-      (cases_eq k 0)
-    where
-      dots : HasDots (tree (frame image)) dir.ino
-      dots = strong.weak.names.dots dir.ino removal-dir.walked
-
-      no_dots : (other : List ℕ) → name ≡ other → (other ≡ 46 ∷ []) ⊎ (other ≡ 46 ∷ 46 ∷ []) → ⊥
-      no_dots other e (inl one') = let t : (is_bad (46 ∷ []) || is_dots (46 ∷ [])) ≡ false = subst (λ z. (is_bad z || is_dots z) ≡ false) (e ∙ one') tests.1 in cc
-      no_dots other e (inr two) = let t : (is_bad (46 ∷ 46 ∷ []) || is_dots (46 ∷ 46 ∷ [])) ≡ false = subst (λ z. (is_bad z || is_dots z) ≡ false) (e ∙ two) tests.1 in cc
+  removal-past = named-past image dir.ino d name k i strong.weak removal-dir place.1 tests.1
 
   removal-after : after_calls (view image) ((call.Remove dir name, cred) ∷ []) now ≡ with_node (less_link (view image) i n now) dir.ino (without_entry d k now)
   removal-after = ap (λ r. r.1) (removal-step (view image) dir name cred now d k i n c)

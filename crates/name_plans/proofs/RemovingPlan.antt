@@ -1,23 +1,23 @@
 -- REMOVE as a plan: the slot, then the directory's times and the node's inode, in either order.
 use Rattle.std.proofs.Common.{◌≡◌, ◌≢◌, ℕ, ◌+◌, ◌-◌, ◌/◌, ◌<◌, ◌≤◌, Bool, true, false, cond, ◌||◌, ◌==◌, if◌then◌else◌, List, [], ◌∷◌, ◌++◌, length, set, refl, sym, ap, subst, ◌∙◌, arith, inl, ⊎_elim, eqb, eq-eqb, ltb, Option, Some, None, length-set}
 use Rattle.std.proofs.lemmas.Bool.{cases_eq, cases_Bool, ne_eqb, eqb-true}
-use Rattle.std.specs.List.{AllByRecursion, list_any}
+use Rattle.std.specs.List.{AllByRecursion}
 use Rattle.std.specs.FinMap.{get}
 use Rattle.files_model.specs.declared.attributes.FileId.{FileId}
 use Rattle.files_model.specs.declared.credential.Cred.{Cred}
 use Rattle.files_model.specs.declared.call.Call.TheVariants as call
 use Rattle.files_model.specs.Files.{Node, Files}
-use Rattle.files_model.specs.Torn.{Asked, after_calls}
+use Rattle.files_model.specs.Torn.{after_calls}
 use Rattle.stable.specs.Puts.{put_all}
 use Rattle.stable.specs.Store.{Image}
-use Rattle.v7_map.specs.Image.{sector_at, inode_at, inode_sector}
-use Rattle.v7_map.specs.Frame.{Frame, Body, is_directory, frame}
+use Rattle.v7_map.specs.Image.{sector_at}
+use Rattle.v7_map.specs.Frame.{Body, is_directory, frame}
 use Rattle.v7_map.specs.Tree.{tree, is_walked, is_named, links, is_slot_of}
 use Rattle.v7_map.specs.View.{view, node_at}
-use Rattle.v7_map.specs.Weak.{IsWeak, IsStrong, slot_at}
-use Rattle.v7_map.specs.Plans.{IsTornImage, IsPlanOf}
+use Rattle.v7_map.specs.Weak.{IsStrong, slot_at}
+use Rattle.v7_map.specs.Plans.{IsPlanOf}
 use Rattle.v7_map.proofs.Nodes.{StandsAs, view-node}
-use Rattle.v7_plans.proofs.Local.{IsStrongFor, strong_for}
+use Rattle.v7_plans.proofs.Local.{strong_for}
 use Rattle.v7_strokes.specs.Changes.{changed}
 use Rattle.v7_strokes.specs.Entries.{inode_put}
 use Rattle.v7_strokes.specs.Freed.{IsFreed}
@@ -31,7 +31,7 @@ use Rattle.v7_strokes.proofs.Finishing.{IsTimed, Stage, Unsettled, Finish, finis
 use Rattle.v7_strokes.proofs.Loser.{IsLosing, lost_of, kept_of}
 use Rattle.v7_strokes.proofs.Names.{some_slot}
 use Rattle.v7_strokes.proofs.Slots.{plain-alike}
-use Rattle.v7_strokes.proofs.SlotStep.{step-sizes, step-addresses, step-weak, step-strong, step-links, step-heads, step-is_walked, entry-inside, walked-dir, used-number}
+use Rattle.v7_strokes.proofs.SlotStep.{step-sizes, step-addresses, step-strong, step-links, step-heads, step-is_walked, entry-inside, walked-dir, used-number}
 use Rattle.v7_strokes.proofs.TornCalls.{IsAfter, same, times}
 use Rattle.v7_strokes.proofs.Views.{view-slot, same-within}
 use Rattle.name_plans.specs.Removing.{IsRemoval, TakesName, removing_puts}

@@ -1,27 +1,24 @@
 -- What is free after a removal: the blocks of a node that ended, and its i-number.
-use Rattle.std.proofs.Common.{◌≡◌, ◌≢◌, ℕ, ◌+◌, ◌-◌, ◌^◌, ◌<◌, ◌≤◌, Bool, true, false, cond, ◌==◌, ◌&&◌, if◌then◌else◌, List, [], ◌∷◌, length, set, refl, sym, ap, subst, ◌∙◌, arith, inl, inr, ⊎_elim, eqb, ltb, nat_lt, Option, Some, None, unwrap_or, length-set, get_or-set_other, get_or-set_same}
-use Rattle.std.proofs.lemmas.Bool.{cases_eq, cases_Bool, eqb-true}
+use Rattle.std.proofs.Common.{◌≡◌, ◌≢◌, ℕ, ◌+◌, ◌-◌, ◌^◌, ◌<◌, ◌≤◌, Bool, true, false, ◌==◌, ◌&&◌, if◌then◌else◌, List, length, set, refl, sym, ap, subst, ◌∙◌, arith, inl, inr, ⊎_elim, ltb, nat_lt, Option, Some, None, unwrap_or, length-set, get_or-set_other, get_or-set_same}
+use Rattle.std.proofs.lemmas.Bool.{cases_eq, cases_Bool}
 use Rattle.std.specs.FinMap.{get}
 use Rattle.files_model.specs.declared.attributes.FileId.{FileId}
 use Rattle.files_model.specs.declared.credential.Cred.{Cred}
-use Rattle.files_model.specs.declared.call.Call.TheVariants as call
 use Rattle.files_model.specs.Among.{is_among}
 use Rattle.files_model.specs.Files.{Node, Files}
-use Rattle.files_model.specs.Torn.{after_calls}
 use Rattle.index_sets.specs.Free.{is_free}
 use Rattle.stable.specs.Puts.{put_all}
 use Rattle.stable.specs.Store.{Image}
-use Rattle.v7_map.specs.Image.{inode_at, inodes_before}
+use Rattle.v7_map.specs.Image.{inodes_before}
 use Rattle.v7_map.specs.Frame.{Frame, Place, frame}
 use Rattle.v7_map.specs.Tree.{tree}
 use Rattle.v7_map.specs.View.{view}
 use Rattle.v7_map.specs.Weak.{IsWeak, IsStrong}
-use Rattle.v7_map.specs.Plans.{IsPlanOf}
 use Rattle.v7_map.proofs.AnyFrame.{frame-IsFrame}
 use Rattle.v7_map.proofs.Nodes.{view-node}
 use Rattle.v7_map.proofs.Used.{named_used}
 use Rattle.v7_sets.specs.Given.{given}
-use Rattle.v7_sets.specs.Sets.{IsFreeBlock, IsFreeNumber, AreSets, AreSetsOf}
+use Rattle.v7_sets.specs.Sets.{IsFreeNumber, AreSetsOf}
 use Rattle.v7_sets.proofs.Given.{length-given, given-has, given-new, given-only}
 use Rattle.v7_strokes.specs.Changes.{changed}
 use Rattle.v7_strokes.specs.Freed.{IsFreed}
@@ -91,20 +88,38 @@ no_node image j strong free = elim (get (view image).nodes j) as (λ o. get (vie
   | Some m ↦ λ e. absurd (clash (node-used image j m strong e) free)
 ] refl
 
-module _ (old new : Image) (i p : ℕ) (x : Option Node) (y d n : Node) (ends : Bool) (strong : IsStrong (frame old)) (strong' : IsStrong (frame new)) (isize : (frame new).isize ≡ (frame old).isize)
-    (after : view new ≡ changed (view old) i x p y) (apart : i ≢ p) (at_dir : get (view old).nodes p ≡ Some d) (at_node : get (view old).nodes i ≡ Some n) (low : 3 ≤ i) (inside : i ≤ inodes_before (frame old).isize)
+-- no other node comes or goes
+pub record KeepsNodes (old new : Files) (i : ℕ) (x : Option Node) : Type 0 where
+  pub generations : new.generations ≡ old.generations
+  pub here : get new.nodes i ≡ x
+  pub gone : (j : ℕ) → j ≢ i → get old.nodes j ≡ None → get new.nodes j ≡ None
+  pub came : (j : ℕ) → j ≢ i → get new.nodes j ≡ None → get old.nodes j ≡ None
+
+no_some : (o : Option Node) (m : Node) → o ≡ Some m → o ≡ None → ⊥
+no_some o m e f = none_some m (sym f ∙ e)
+  where
+    none_some : (m : Node) → ◌≡◌ {A = Option Node} None (Some m) → ⊥
+    none_some m e = cc
+
+pub keeps-changed : (old new : Files) (i p : ℕ) (x : Option Node) (y d : Node) → new ≡ changed old i x p y → i ≢ p → get old.nodes p ≡ Some d → KeepsNodes old new i x
+keeps-changed old new i p x y d after apart at_dir = record {
+  generations = ap (λ (f : Files). f.generations) after;
+  here = ap (λ (f : Files). get f.nodes i) after ∙ changed-there old i x p y apart;
+  gone = λ j ni h. other j ni (λ e. no_some (get old.nodes j) d (ap (get old.nodes) e ∙ at_dir) h) ∙ h;
+  came = λ j ni h. sym (other j ni (λ e. no_some (get new.nodes j) y (ap (get new.nodes) e ∙ ap (λ (f : Files). get f.nodes p) after ∙ changed-here old i x p y) h)) ∙ h;
+}
+  where
+    other : (j : ℕ) → j ≢ i → j ≢ p → get new.nodes j ≡ get old.nodes j
+    other j ni np = ap (λ (f : Files). get f.nodes j) after ∙ changed-other old i x p y j ni np
+
+module _ (old new : Image) (i : ℕ) (x : Option Node) (n : Node) (ends : Bool) (strong : IsStrong (frame old)) (strong' : IsStrong (frame new)) (isize : (frame new).isize ≡ (frame old).isize)
+    (keeps : KeepsNodes (view old) (view new) i x) (at_node : get (view old).nodes i ≡ Some n) (low : 3 ≤ i) (inside : i ≤ inodes_before (frame old).isize)
     (ended : ends ≡ true → x ≡ None) (stays : ends ≡ false → (m : Node) × (x ≡ Some m)) (inodes : List Bool) (room : length inodes ≡ inodes_before (frame old).isize + 1) (holds : HoldsNumbers (frame old) (view old).generations inodes) where
   generations : (view new).generations ≡ (view old).generations
-  generations = ap (λ (f : Files). f.generations) after
-
-  other : (j : ℕ) → j ≢ i → j ≢ p → get (view new).nodes j ≡ get (view old).nodes j
-  other j ni np = ap (λ (f : Files). get f.nodes j) after ∙ changed-other (view old) i x p y j ni np
+  generations = keeps.generations
 
   here : get (view new).nodes i ≡ x
-  here = ap (λ (f : Files). get f.nodes i) after ∙ changed-there (view old) i x p y apart
-
-  dir_used : ((frame new).head p).is_used ≡ true
-  dir_used = node-used new p y strong' (ap (λ (f : Files). get f.nodes p) after ∙ changed-here (view old) i x p y)
+  here = keeps.here
 
   in_tree : (image : Image) (j : ℕ) → j ≤ inodes_before (frame image).isize → j < (tree (frame image)).inodes + 1
   unfolding frame
@@ -112,21 +127,19 @@ module _ (old new : Image) (i p : ℕ) (x : Option Node) (y d n : Node) (ends : 
 
   keep : (j : ℕ) → j ≢ i → IsFreeNumber (frame old) (view old).generations j → IsFreeNumber (frame new) (view new).generations j
   keep j ni was =
-      let np : j ≢ p = λ e. clash (subst (λ q. ((frame old).head q).is_used ≡ true) (sym e) (node-used old p d strong at_dir)) was.unused in
       let within : j ≤ inodes_before (frame new).isize = subst (λ z. j ≤ inodes_before z) (sym isize) was.within in record {
         past = was.past;
         within = within;
-        unused = absent-free new j strong' (other j ni np ∙ no_node old j strong was.unused) (in_tree new j within);
+        unused = absent-free new j strong' (keeps.gone j ni (no_node old j strong was.unused)) (in_tree new j within);
         fresh = λ g e. was.fresh g (ap (λ m. get m j) (sym generations) ∙ e);
       }
 
   back : (j : ℕ) → j ≢ i → IsFreeNumber (frame new) (view new).generations j → IsFreeNumber (frame old) (view old).generations j
   back j ni is =
-      let np : j ≢ p = λ e. clash (subst (λ q. ((frame new).head q).is_used ≡ true) (sym e) dir_used) is.unused in
       let within : j ≤ inodes_before (frame old).isize = subst (λ z. j ≤ inodes_before z) isize is.within in record {
         past = is.past;
         within = within;
-        unused = absent-free old j strong (sym (other j ni np) ∙ no_node new j strong' is.unused) (in_tree old j within);
+        unused = absent-free old j strong (keeps.came j ni (no_node new j strong' is.unused)) (in_tree old j within);
         fresh = λ g e. is.fresh g (ap (λ m. get m j) generations ∙ e);
       }
 
@@ -171,38 +184,14 @@ module _ (old new : Image) (i p : ℕ) (x : Option Node) (y d n : Node) (ends : 
   pub stays-used : ends ≡ false → IsFreeNumber (frame new) (view new).generations i → ⊥
   stays-used e is = let m = stays e in clash (node-used new i m.0 strong' (here ∙ m.1)) is.unused
 
--- ---- after a removal
+-- ---- after a call by which a node loses a name
 
-module _ (image : Image) (dir : FileId) (name : List ℕ) (cred : Cred) (now : ℕ) (d : Node) (k i : ℕ) (n : Node) (before after : List ℕ) (b1 : List ℕ) (bs cs : List (List ℕ)) (b : List ℕ)
-    (strong : IsStrong (frame image)) (c : IsRemoval (view image) dir name cred d k i n) (t : TakesName image now dir.ino k i n before after b1 bs cs b)
+module _ (image last : Image) (now i : ℕ) (n : Node) (strong : IsStrong (frame image)) (strong_last : IsStrong (frame last)) (moved : IsFreed (n.nlink == 1) i (frame image) (frame last))
+    (keeps : KeepsNodes (view image) (view last) i (lost_of n now)) (at_node : get (view image).nodes i ≡ Some n) (low : 3 ≤ i)
     (freed : List ℕ) (are : AreFreed (n.nlink == 1) (frame image) i freed) (blocks inodes : List Bool) (sets : AreSetsOf image blocks inodes) where
-  last : Image
-  last = put_all (removing_puts image dir.ino k i before after b1 bs cs b) image
-
-  plan : IsPlanOf image ((call.Remove dir name, cred) ∷ []) now (removing_puts image dir.ino k i before after b1 bs cs b)
-  plan = removal-plan image dir name cred now d k i n strong c before after b1 bs cs b t
-
-  moved : IsFreed (n.nlink == 1) i (frame image) (frame last)
-  unfolding last
-  moved = removal-freed image dir name cred now d k i n strong c before after b1 bs cs b t
-
-  timed : Node
-  timed = record d { slots = set d.slots k None; mtime = now; ctime = now }
-
-  files : view last ≡ changed (view image) i (lost_of n now) dir.ino timed
-  unfolding last timed
-  files = plan.after ∙ removal-changed image dir name cred now d k i n strong c
-
-  strong_last : IsStrong (frame last)
-  unfolding last
-  strong_last = plan.strong
-
-  low : 3 ≤ i
-  low = removal-low image dir name cred now d k i n strong c
-
   inside : i ≤ inodes_before (frame image).isize
   unfolding frame
-  inside = let within = (view-node image i n c.node).within in omega arith
+  inside = let within = (view-node image i n at_node).within in omega arith
 
   ended : (n.nlink == 1) ≡ true → lost_of n now ≡ None
   ended e = ap (λ t. if t then None else Some (record n { nlink = n.nlink - 1; ctime = now })) e
@@ -212,28 +201,40 @@ module _ (image : Image) (dir : FileId) (name : List ℕ) (cred : Cred) (now : �
 
   numbers : (ends fresh : Bool) → (n.nlink == 1) ≡ ends → nat_lt (unwrap_or (get (view image).generations i) 0) 4294967295 ≡ fresh
       → HoldsNumbers (frame last) (view last).generations (number_given (ends && fresh) i inodes)
-  numbers true true e f = number-comes image last i dir.ino (lost_of n now) timed d n (n.nlink == 1) strong strong_last moved.isize files (removal-apart image dir name cred now d k i n strong c) (removal-at image dir name cred now d k i n strong c) c.node low inside ended stays inodes sets.inodes_room
+  numbers true true e f = number-comes image last i (lost_of n now) n (n.nlink == 1) strong strong_last moved.isize keeps at_node low inside ended stays inodes sets.inodes_room
       (halves-of (frame image) (view image).generations blocks inodes sets).1 e (below_of (unwrap_or (get (view image).generations i) 0) 4294967295 f)
-  numbers true false e f = number-stays image last i dir.ino (lost_of n now) timed d n (n.nlink == 1) strong strong_last moved.isize files (removal-apart image dir name cred now d k i n strong c) (removal-at image dir name cred now d k i n strong c) c.node low inside ended stays inodes sets.inodes_room
+  numbers true false e f = number-stays image last i (lost_of n now) n (n.nlink == 1) strong strong_last moved.isize keeps at_node low inside ended stays inodes sets.inodes_room
       (halves-of (frame image) (view image).generations blocks inodes sets).1 (λ is. used_up is f)
     where
       used_up : IsFreeNumber (frame last) (view last).generations i → nat_lt (unwrap_or (get (view image).generations i) 0) 4294967295 ≡ false → ⊥
       used_up is f = elim (get (view image).generations i) as (λ o. get (view image).generations i ≡ o → nat_lt (unwrap_or o 0) 4294967295 ≡ false → ⊥) [
         | None ↦ λ e f. cc
-        | Some g ↦ λ e f. let lt : g < 4294967295 = is.fresh g (ap (λ (f : Files). get f.generations i) files ∙ e) in above_of g 4294967295 f lt
+        | Some g ↦ λ e f. let lt : g < 4294967295 = is.fresh g (ap (λ m. get m i) keeps.generations ∙ e) in above_of g 4294967295 f lt
       ] refl f
-  numbers false fresh e f = number-stays image last i dir.ino (lost_of n now) timed d n (n.nlink == 1) strong strong_last moved.isize files (removal-apart image dir name cred now d k i n strong c) (removal-at image dir name cred now d k i n strong c) c.node low inside ended stays inodes sets.inodes_room
+  numbers false fresh e f = number-stays image last i (lost_of n now) n (n.nlink == 1) strong strong_last moved.isize keeps at_node low inside ended stays inodes sets.inodes_room
       (halves-of (frame image) (view image).generations blocks inodes sets).1
-      (stays-used image last i dir.ino (lost_of n now) timed d n (n.nlink == 1) strong strong_last moved.isize files (removal-apart image dir name cred now d k i n strong c) (removal-at image dir name cred now d k i n strong c) c.node low inside ended stays inodes sets.inodes_room
+      (stays-used image last i (lost_of n now) n (n.nlink == 1) strong strong_last moved.isize keeps at_node low inside ended stays inodes sets.inodes_room
       (halves-of (frame image) (view image).generations blocks inodes sets).1 e)
 
   long : length (number_given (frees_number (view image) i n) i inodes) ≡ length inodes
   long = elim (frees_number (view image) i n) as (λ b. length (number_given b i inodes) ≡ length inodes) [ true ↦ length-set inodes i true | false ↦ refl ]
 
-  pub removal-sets : AreSetsOf (put_all (removing_puts image dir.ino k i before after b1 bs cs b) image) (given freed blocks) (number_given (frees_number (view image) i n) i inodes)
-  unfolding last
-  removal-sets = sets-of (frame last) (view last).generations (given freed blocks) (number_given (frees_number (view image) i n) i inodes)
+  pub lost-sets : AreSetsOf last (given freed blocks) (number_given (frees_number (view image) i n) i inodes)
+  lost-sets = sets-of (frame last) (view last).generations (given freed blocks) (number_given (frees_number (view image) i n) i inodes)
       (length-given freed blocks ∙ sets.blocks_room ∙ sym moved.fsize)
       (long ∙ sets.inodes_room ∙ ap (λ q. inodes_before q + 1) (sym moved.isize))
       (blocks-after (n.nlink == 1) (frame image) (frame last) i freed blocks strong.weak sets.blocks_room moved are (halves-of (frame image) (view image).generations blocks inodes sets).0)
       (numbers (n.nlink == 1) (nat_lt (unwrap_or (get (view image).generations i) 0) 4294967295) refl refl)
+
+-- ---- after a removal
+
+pub removal-sets : (image : Image) (dir : FileId) (name : List ℕ) (cred : Cred) (now : ℕ) (d : Node) (k i : ℕ) (n : Node) (before after : List ℕ) (b1 : List ℕ) (bs cs : List (List ℕ)) (b : List ℕ)
+    → IsStrong (frame image) → IsRemoval (view image) dir name cred d k i n → TakesName image now dir.ino k i n before after b1 bs cs b
+    → (freed : List ℕ) → AreFreed (n.nlink == 1) (frame image) i freed → (blocks inodes : List Bool) → AreSetsOf image blocks inodes
+    → AreSetsOf (put_all (removing_puts image dir.ino k i before after b1 bs cs b) image) (given freed blocks) (number_given (frees_number (view image) i n) i inodes)
+removal-sets image dir name cred now d k i n before after b1 bs cs b strong c t freed are blocks inodes sets =
+    let last : Image = put_all (removing_puts image dir.ino k i before after b1 bs cs b) image in
+    let plan = removal-plan image dir name cred now d k i n strong c before after b1 bs cs b t in
+    lost-sets image last now i n strong plan.strong (removal-freed image dir name cred now d k i n strong c before after b1 bs cs b t)
+    (keeps-changed (view image) (view last) i dir.ino (lost_of n now) (record d { slots = set d.slots k None; mtime = now; ctime = now }) d (plan.after ∙ removal-changed image dir name cred now d k i n strong c) (removal-apart image dir name cred now d k i n strong c) (removal-at image dir name cred now d k i n strong c))
+    c.node (removal-low image dir name cred now d k i n strong c) freed are blocks inodes sets

@@ -5,3 +5,9 @@ pub mod Taken
 pub mod Removing
 pub mod Removed
 pub mod Standing
+pub mod RemovingDirectory
+pub mod Linking
+pub mod MakingDirectory
+pub mod Replacement
+pub mod Moving
+pub mod Naming
