@@ -13,3 +13,6 @@ mod Judged
 mod Made
 mod NewInPlace
 mod StandingPlan
+mod ChosenBlocks
+mod Targets
+mod LayingOut

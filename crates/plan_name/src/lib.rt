@@ -1,10 +1,12 @@
 //! Plans of calls that make and take away names.
 #![tactic(auto)]
 
+mod choosing;
 mod creating_puts;
 mod growth;
 mod judging;
 mod judging_removal;
+mod laying_out;
 mod making;
 mod names;
 mod new_in_place;
@@ -17,6 +19,7 @@ mod standing;
 pub use creating_puts::{Entry, Listing, Longer, add_at_end, add_in_place};
 pub use growth::added_blocks;
 pub use judging::judge_new;
+pub use laying_out::{Laid, NewBlocks, lay_out, take_new};
 pub use making::{Spot, make_in_place};
 pub use names::{create_refusal, entry_refusal, name_refusal, standing_refusal};
 pub use new_in_place::{PlannedNew, plan_new_in_place};
