@@ -16,3 +16,4 @@ mod StandingPlan
 mod ChosenBlocks
 mod Targets
 mod LayingOut
+mod NewAtEnd
