@@ -1,9 +1,9 @@
 -- A directory that is laid out by its places gets longer so.
 use Rattle.std.proofs.Common.{◌≡◌, ◌≢◌, ℕ, ◌+◌, ◌/◌, ◌%◌, ◌<◌, ◌≤◌, min, Bool, true, false, cond, ◌&&◌, ◌==◌, List, ◌++◌, length, get_or, refl, sym, ap, subst, ◌∙◌, arith, ⊎_elim, eqb, leb, ltb, eq-eqb, Option, Some, None, IfSome, IfNone, IsSomeAnd}
-use Rattle.std.proofs.lemmas.Bool.{cases_eq, ne_eqb, eqb-true, lt-ltb, le-leb, leb-true}
+use Rattle.std.proofs.lemmas.Bool.{cases_eq, cases_lt, ne_eqb, eqb-true, lt-ltb, le-leb, leb-true}
 use Rattle.files_model.specs.Batch.{one_if}
 use Rattle.files_model.specs.Files.{sectors_of}
-use Rattle.index_sets.specs.Free.{count_free}
+use Rattle.index_sets.specs.Free.{count_free, IsLowestFrom}
 use Rattle.plan_file.specs.Free.{AreSpare}
 use Rattle.plan_file.specs.Places.{place_within, map_place, ArePlaces}
 use Rattle.plan_file.specs.declared.places.Places.{Places}
@@ -20,7 +20,7 @@ use Rattle.name_plans.specs.Lengthening.{MapPuts}
 use Rattle.name_plans.specs.Taken.{AreNewBlocks}
 use Rattle.plan_name.specs.Creating.{map_puts}
 use Rattle.plan_name.specs.Growth.{added_blocks}
-use Rattle.plan_name.specs.LayingOut.{MayGrow, needed_blocks, PutsMap, IsLaid, LaysLonger, if_new, new_list, body_with}
+use Rattle.plan_name.specs.LayingOut.{AreLowest, MayGrow, needed_blocks, PutsMap, IsLaid, LaysLonger, if_new, one_of, new_list, body_with}
 use Rattle.plan_name.specs.declared.creating_puts.Listing.{Listing}
 use Rattle.plan_name.specs.declared.laying_out.Laid.{Laid}
 use Rattle.plan_name.proofs.Targets.{laid_at, laid-target, laid-new, laid-map}
@@ -36,6 +36,34 @@ pub map-within : (q sectors : ℕ) (fresh : Bool) (single : ℕ) (at : ℕ → �
 map-within q sectors fresh single at some' within None h = tt
 map-within q sectors fresh single at some' within (Some listing) (ge, new, block, long, reads) =
     let w = within (some' ge) in let low = w.0 in let high = w.1 in subst (λ c. (2 ≤ c) × (c < sectors)) (sym block) (low, omega arith)
+
+-- a block that is another than before is a new one
+when-new : (P : ℕ → Type 0) (old new : ℕ) → (old ≢ new → P new) → IfSome (if_new old new) P
+when-new P old new h = ⊎_elim
+    (λ (e : old ≡ new). subst (λ t. IfSome (cond t None (Some new)) P) (sym (eq-eqb old new e)) tt)
+    (λ (ne : old ≢ new). subst (λ t. IfSome (cond t None (Some new)) P) (sym (ne_eqb old new ne)) (h ne))
+    (cases_eq old new)
+
+pub are-lowest : (blocks : List Bool) (places : Places) (q : ℕ) (laid : Laid) → IsLaid blocks places q laid → AreLowest blocks laid
+are-lowest blocks places q laid x = record {
+  sector = subst (λ o. IfSome o (λ a. IsLowestFrom blocks 0 (Some a))) (sym x.new_sector)
+      (when-new (λ a. IsLowestFrom blocks 0 (Some a)) (get_or places.body q 0) laid.sector (λ ne. ⊎_elim
+      (λ (z : get_or places.body q 0 ≡ 0). x.chosen.sector.new z)
+      (λ (nz : get_or places.body q 0 ≢ 0). absurd (ne (sym (x.chosen.sector.old nz))))
+      (cases_eq (get_or places.body q 0) 0)));
+  map = subst (λ o. IfSome o (λ a. IsLowestFrom blocks (laid.sector + 1) (Some a))) (sym x.new_map)
+      (when-new (λ a. IsLowestFrom blocks (laid.sector + 1) (Some a)) places.single laid.longer.blocks.single (λ ne. ⊎_elim
+      (λ (z : places.single ≡ 0). ⊎_elim
+      (λ (lt : q < 10). absurd (ne (sym (x.chosen.single.direct lt))))
+      (λ (ge : 10 ≤ q). x.chosen.single.new z ge)
+      (cases_lt q 10))
+      (λ (nz : places.single ≢ 0). absurd (ne (sym (x.chosen.single.old nz))))
+      (cases_eq places.single 0)));
+}
+
+pub all-lowest : (blocks : List Bool) (places : Places) (q : ℕ) (o : Option Laid) → IfSome o (IsLaid blocks places q) → IfSome o (AreLowest blocks)
+all-lowest blocks places q None x = tt
+all-lowest blocks places q (Some laid) x = are-lowest blocks places q laid x
 
 module _ (image : Image) (d : ℕ) (inode : Inode) (blocks inodes : List Bool) (m : MayGrow image d inode blocks inodes) (places : Places) (sectors : ℕ) (long : sectors ≡ length image)
     (at : ArePlaces image (min sectors 1048576) inode places) where
@@ -177,7 +205,7 @@ module _ (image : Image) (d : ℕ) (inode : Inode) (blocks inodes : List Bool) (
         (λ l. laid_at (frame image) d (inode.size / 16 / 32) laid.sector laid.longer.blocks.single (Body l)) body-same laid.longer.map x.longer.map))
 
     new : AreNewBlocks (frame image) d (laid_at (frame image) d (inode.size / 16 / 32) laid.sector laid.longer.blocks.single) (new_list laid.new)
-    new = subst (AreNewBlocks (frame image) d (laid_at (frame image) d (inode.size / 16 / 32) laid.sector laid.longer.blocks.single)) (sym (x.new ∙ (λ z. if_new (body_q z) laid.sector ++ if_new (at_single z) laid.longer.blocks.single)))
+    new = subst (AreNewBlocks (frame image) d (laid_at (frame image) d (inode.size / 16 / 32) laid.sector laid.longer.blocks.single)) (sym (λ z. one_of ((x.new_sector ∙ ap (λ c. if_new c laid.sector) body_q) z) ++ one_of ((x.new_map ∙ ap (λ c. if_new c laid.longer.blocks.single) at_single) z)))
         (laid-new (frame image) d (inode.size / 16 / 32) laid.sector laid.longer.blocks.single m.strong (frame-IsFrame image) below sector_old sector_new single_old single_direct single_new)
 
     pub lays-longer : LaysLonger image d (inode.size / 16) laid

@@ -12,7 +12,7 @@ use Rattle.v7_map.proofs.Walks.{among, any_found, any_at, among-range, or_left, 
 use Rattle.v7_sets.specs.Sets.{IsFreeBlock}
 use Rattle.v7_strokes.specs.Targets.{IsTarget}
 use Rattle.plan_name.specs.Creating.{map_puts}
-use Rattle.plan_name.specs.LayingOut.{PutsMap, if_new}
+use Rattle.plan_name.specs.LayingOut.{PutsMap, if_new, one_of}
 use Rattle.plan_name.specs.declared.creating_puts.Listing.{Listing}
 
 -- the places of directory d with sector q at block a, and the block of addresses at b
@@ -124,29 +124,29 @@ module _ (f : Frame) (d q a b : ℕ) (strong : IsStrong f) (is_frame : IsFrame f
 
   -- ---- the new blocks
 
-  in_new : (old new : ℕ) → old ≡ 0 → new ≢ 0 → is_among new (if_new old new) ≡ true
-  in_new old new z nz = ap (λ t. is_among new (cond t [] (new ∷ []))) (ne_eqb old new (λ e. nz (sym e ∙ z))) ∙ ap (λ t. t || false) (eq-eqb new new refl)
+  in_new : (old new : ℕ) → old ≡ 0 → new ≢ 0 → is_among new (one_of (if_new old new)) ≡ true
+  in_new old new z nz = ap (λ t. is_among new (one_of (cond t None (Some new)))) (ne_eqb old new (λ e. nz (sym e ∙ z))) ∙ ap (λ t. t || false) (eq-eqb new new refl)
 
-  not_new : (old new c : ℕ) → new ≢ c → is_among c (if_new old new) ≡ false
+  not_new : (old new c : ℕ) → new ≢ c → is_among c (one_of (if_new old new)) ≡ false
   not_new old new c ne = by_test (eqb old new)
     where
-      by_test : (t : Bool) → is_among c (cond t [] (new ∷ [])) ≡ false
+      by_test : (t : Bool) → is_among c (one_of (cond t None (Some new))) ≡ false
       by_test true = refl
       by_test false = ap (λ t. t || false) (ne_eqb new c ne)
 
-  split : (c : ℕ) → is_among c (if_new (f.address d (Body q)) a ++ if_new (f.address d Single) b) ≡ (is_among c (if_new (f.address d (Body q)) a) || is_among c (if_new (f.address d Single) b))
-  split c = list_any-append (λ t. t == c) (if_new (f.address d (Body q)) a) (if_new (f.address d Single) b)
+  split : (c : ℕ) → is_among c (one_of (if_new (f.address d (Body q)) a) ++ one_of (if_new (f.address d Single) b)) ≡ (is_among c (one_of (if_new (f.address d (Body q)) a)) || is_among c (one_of (if_new (f.address d Single) b)))
+  split c = list_any-append (λ t. t == c) (one_of (if_new (f.address d (Body q)) a)) (one_of (if_new (f.address d Single) b))
 
-  each_new : (p : Place) → f.address d p ≡ 0 → laid_at f d q a b p ≢ 0 → is_among (laid_at f d q a b p) (if_new (f.address d (Body q)) a ++ if_new (f.address d Single) b) ≡ true
+  each_new : (p : Place) → f.address d p ≡ 0 → laid_at f d q a b p ≢ 0 → is_among (laid_at f d q a b p) (one_of (if_new (f.address d (Body q)) a) ++ one_of (if_new (f.address d Single) b)) ≡ true
   each_new (Body k) z nz =
       let e = new_body k z nz in
       let none : f.address d (Body q) ≡ 0 = ap (λ j. f.address d (Body j)) (sym e) ∙ z in
-      subst (λ c. is_among c (if_new (f.address d (Body q)) a ++ if_new (f.address d Single) b) ≡ true) (sym (here k e))
-      (split a ∙ or_left (is_among a (if_new (f.address d (Body q)) a)) (is_among a (if_new (f.address d Single) b)) (in_new (f.address d (Body q)) a none sector_some))
-  each_new Single z nz = split b ∙ or_right (is_among b (if_new (f.address d (Body q)) a)) (is_among b (if_new (f.address d Single) b)) (in_new (f.address d Single) b z nz)
+      subst (λ c. is_among c (one_of (if_new (f.address d (Body q)) a) ++ one_of (if_new (f.address d Single) b)) ≡ true) (sym (here k e))
+      (split a ∙ or_left (is_among a (one_of (if_new (f.address d (Body q)) a))) (is_among a (one_of (if_new (f.address d Single) b))) (in_new (f.address d (Body q)) a none sector_some))
+  each_new Single z nz = split b ∙ or_right (is_among b (one_of (if_new (f.address d (Body q)) a))) (is_among b (one_of (if_new (f.address d Single) b))) (in_new (f.address d Single) b z nz)
   each_new Double z nz = absurd (nz refl)
 
-  pub laid-new : AreNewBlocks f d (laid_at f d q a b) (if_new (f.address d (Body q)) a ++ if_new (f.address d Single) b)
+  pub laid-new : AreNewBlocks f d (laid_at f d q a b) (one_of (if_new (f.address d (Body q)) a) ++ one_of (if_new (f.address d Single) b))
   laid-new = record {
     each = each_new;
     only = λ c out. split c ∙ (λ z. not_new (f.address d (Body q)) a c (λ e. out (Body q) (here q refl ∙ e)) z || not_new (f.address d Single) b c (λ e. out Single e) z);

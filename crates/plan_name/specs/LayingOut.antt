@@ -1,5 +1,5 @@
 -- Where the blocks of a directory are to stand that gets longer by a slot.
-use Rattle.std.specs.Prelude.{◌≡◌, ◌≢◌, ℕ, ◌+◌, ◌-◌, ◌*◌, ◌<◌, ◌≤◌, min, Bool, true, List, [], ◌∷◌, ◌++◌, length, get_or, Option, Some, None, ◌==◌, ◌&&◌, nat_le, if◌then◌else◌}
+use Rattle.std.specs.Prelude.{◌≡◌, ◌≢◌, ℕ, ◌+◌, ◌-◌, ◌*◌, ◌<◌, ◌≤◌, min, Bool, true, List, [], ◌∷◌, ◌++◌, length, get_or, Option, Some, None, IfSome, ◌==◌, ◌&&◌, nat_le, if◌then◌else◌}
 use Rattle.files_model.specs.Batch.{one_if}
 use Rattle.files_model.specs.Space.{size_limit}
 use Rattle.index_sets.specs.Free.{IsLowestFrom, count_free}
@@ -76,8 +76,8 @@ pub record IsLonger (places : Places) (q sector : ℕ) (longer : Longer) : Type 
   pub map : PutsMap q (get_or places.body q 0 == 0) longer.blocks.single (body_with places.body q sector) longer.map
 
 -- a block that is another than before
-abbrev pub if_new : ℕ → ℕ → List ℕ
-if_new old new = if old == new then [] else new ∷ []
+abbrev pub if_new : ℕ → ℕ → Option ℕ
+if_new old new = if old == new then None else Some new
 
 -- one block or none
 abbrev pub one_of : Option ℕ → List ℕ
@@ -92,7 +92,13 @@ new_list new = one_of new.sector ++ one_of new.map
 pub record IsLaid (blocks : List Bool) (places : Places) (q : ℕ) (laid : Laid) : Type 0 where
   pub chosen : AreChosen blocks places q laid.sector laid.longer.blocks.single
   pub longer : IsLonger places q laid.sector laid.longer
-  pub new : new_list laid.new ≡ if_new (get_or places.body q 0) laid.sector ++ if_new places.single laid.longer.blocks.single
+  pub new_sector : laid.new.sector ≡ if_new (get_or places.body q 0) laid.sector
+  pub new_map : laid.new.map ≡ if_new places.single laid.longer.blocks.single
+
+-- a new sector's block is the lowest free one, and that of a new block of addresses the next one
+pub record AreLowest (blocks : List Bool) (laid : Laid) : Type 0 where
+  pub sector : IfSome laid.new.sector (λ a. IsLowestFrom blocks 0 (Some a))
+  pub map : IfSome laid.new.map (λ a. IsLowestFrom blocks (laid.sector + 1) (Some a))
 
 -- the sector and a block of addresses that is put are past the super-block and among so many sectors
 pub record LaidWithin (sectors : ℕ) (laid : Laid) : Type 0 where

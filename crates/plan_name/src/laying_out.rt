@@ -1,11 +1,11 @@
 // Where the blocks of a directory are to stand that gets longer by a slot.
 
-ghost use Rattle.std.specs.Prelude.{◌≡◌, ◌<◌, ◌≤◌, ◌+◌, ◌-◌, ◌*◌, ◌/◌, ◌^◌, ◌==◌, ℕ, Bool, List, min, length, get_or, All, Some, None, IfSome, IfNone, IsSomeAnd, IfOk, if◌then◌else◌};
+ghost use Rattle.std.specs.Prelude.{◌≡◌, ◌<◌, ◌≤◌, ◌+◌, ◌-◌, ◌*◌, ◌/◌, ◌^◌, ℕ, Bool, List, min, length, get_or, All, IfSome, IfNone, IsSomeAnd, IfOk};
 ghost use Rattle.index_sets.specs.Free.{count_free};
 ghost use Rattle.name_plans.specs.Taken.{taken};
 ghost use Rattle.plan_file.specs.Free.{AreSpare};
 ghost use Rattle.plan_file.specs.Places.{AreWithin, AreThrough};
-ghost use Rattle.plan_name.specs.LayingOut.{MayGrow, needed_blocks, body_with, PutsMap, IsLonger, one_of, new_list, IsLaid, LaidWithin, LaysLonger};
+ghost use Rattle.plan_name.specs.LayingOut.{MayGrow, needed_blocks, body_with, PutsMap, IsLonger, if_new, one_of, new_list, AreLowest, IsLaid, LaidWithin, LaysLonger};
 ghost use Rattle.stable.specs.Counts.{HasCause};
 ghost use Rattle.stable.specs.Looked.{Looked};
 ghost use Rattle.v7_layout.specs.Numbers.{field};
@@ -111,7 +111,7 @@ fn longer_by(places: &Places, index: usize, chosen: &Chosen) -> Longer
 
 // A block that is another than before.
 fn changed(old: u32, new: u32) -> Option<u32>
-    ensures { result ≡ (if old == new then None else Some new) }
+    ensures { result ≡ if_new old new }
 {
     if old == new {
         return None;
@@ -153,6 +153,7 @@ pub fn lay_out<S: Stable>(
     inode: &Inode,
 ) -> Result<Option<Laid>, Failed>
     ensures lays { S.tells → (d : ℕ) (inodes : List Bool) → MayGrow (S.image store.old) d inode.now blocks.now inodes → IfOk result (λ r. IsSomeAnd r (LaysLonger (S.image store.old) d (inode.now.size / 16))) }
+    ensures lowest { IfOk result (λ r. IfSome r (AreLowest blocks.now)) }
     ensures within { IfOk result (λ r. IfSome r (LaidWithin (S.sector_count store.old))) }
     ensures cause { HasCause (S.faults store.old) (S.faults store.new) result }
     ensures looked { Looked S.Stable store.old store.new }
