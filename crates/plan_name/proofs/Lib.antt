@@ -13,3 +13,7 @@ mod Judged
 mod Made
 mod NewInPlace
 mod StandingPlan
+mod ChosenBlocks
+mod Targets
+mod LayingOut
+mod NewAtEnd

@@ -1,11 +1,10 @@
 -- What a REMOVE in a directory that stands comes to, by the records of an image with nothing to mend.
-use Rattle.std.proofs.Common.{◌≡◌, ℕ, ◌/◌, ◌<◌, ◌≤◌, ◌≢◌, arith, Bool, true, false, cond, not, ◌&&◌, ◌==◌, List, [], ◌∷◌, Option, Some, None, refl, sym, ap, subst, ◌∙◌, eqb}
+use Rattle.std.proofs.Common.{◌≡◌, ℕ, ◌/◌, ◌<◌, ◌≤◌, ◌≢◌, arith, Bool, true, false, cond, not, ◌&&◌, ◌==◌, List, [], ◌∷◌, Option, Some, None, refl, sym, ap, subst, ◌∙◌}
 use Rattle.std.specs.FinMap.{get}
 use Rattle.std.specs.List.{position}
 use Rattle.files_model.specs.declared.attributes.Attr.{Attr}
 use Rattle.files_model.specs.declared.attributes.FileId.{FileId}
 use Rattle.files_model.specs.declared.credential.Cred.{Cred}
-use Rattle.files_model.specs.declared.call.Call.TheVariants.{Remove}
 use Rattle.files_model.specs.declared.permission.Want.TheVariants as want
 use Rattle.files_model.specs.declared.reply.Reply.{Reply}
 use Rattle.files_model.specs.declared.reply.Reply.TheVariants as reply
@@ -16,14 +15,13 @@ use Rattle.files_model.specs.Files.{Node, Files, live}
 use Rattle.files_model.specs.NameRows.{remove_row, remove_tests, loss_tests, less_link}
 use Rattle.files_model.specs.Names.{has_name, number_at, at_node, at_slot, name_tests, without_entry}
 use Rattle.files_model.specs.Permission.{allows, is_directory}
-use Rattle.files_model.specs.Step.{step}
 use Rattle.stable.specs.Store.{Image}
 use Rattle.v7_layout.specs.declared.inode.Inode.{Inode}
 use Rattle.v7_map.specs.Found.{IsFile}
 use Rattle.v7_map.specs.Frame as frames
 use Rattle.v7_map.specs.Frame.{frame}
 use Rattle.v7_map.specs.Image.{inode_at, is_inode}
-use Rattle.v7_map.specs.Stored.{is_standing, stored_attr}
+use Rattle.v7_map.specs.Stored.{stored_attr}
 use Rattle.v7_map.specs.View.{view, files_of, node_at, kind_of}
 use Rattle.v7_map.specs.Weak.{IsStrong}
 use Rattle.v7_map.specs.declared.found.Found.{Found}
@@ -36,7 +34,6 @@ use Rattle.v7_entries.specs.Found.{IsNamedSlot}
 use Rattle.v7_entries.specs.declared.named.NamedSlot.{NamedSlot}
 use Rattle.v7_entries.proofs.Directories.{weak_body, slots_are}
 use Rattle.v7_entries.proofs.Lookups.{kind_directory, first_passed, named_used, used_inode}
-use Rattle.name_plans.specs.Removing.{IsRemoval}
 use Rattle.plan_name.specs.Removals.{Refuses, IsTaken}
 use Rattle.plan_name.specs.declared.removing_puts.Taking.{Taking}
 
