@@ -1,26 +1,19 @@
 -- The blocks at the places of an inode, and what is free once a node ended.
-use Rattle.std.proofs.Common.{◌≡◌, ◌≢◌, ℕ, ◌+◌, ◌<◌, ◌≤◌, Bool, true, false, ◌||◌, ◌==◌, ◌&&◌, if◌then◌else◌, List, [], ◌∷◌, ◌++◌, get_or, Option, Some, None, refl, sym, ap, subst, ◌∙◌, arith, ⊎_elim, eqb, eq-eqb, ltb, unwrap_or}
-use Rattle.std.proofs.lemmas.Bool.{cases_eq, ne_eqb, eqb-true}
+use Rattle.std.proofs.Common.{◌≡◌, ◌≢◌, ℕ, ◌+◌, Bool, true, false, ◌||◌, ◌==◌, List, [], ◌∷◌, ◌++◌, get_or, refl, sym, ap, subst, ◌∙◌, arith, ⊎_elim, eqb, eq-eqb}
+use Rattle.std.proofs.lemmas.Bool.{cases_eq, eqb-true}
 use Rattle.std.proofs.lemmas.List.Folds.{list_any-append}
-use Rattle.std.specs.FinMap.{get}
 use Rattle.files_model.specs.Among.{is_among}
-use Rattle.files_model.specs.Files.{Files}
-use Rattle.files_model.specs.declared.attributes.FileId.{FileId}
-use Rattle.files_model.specs.declared.credential.Cred.{Cred}
-use Rattle.files_model.specs.declared.call.Call.TheVariants.{Remove}
-use Rattle.files_model.specs.declared.reply.Reply.TheVariants as reply
 use Rattle.stable.specs.Store.{Image}
 use Rattle.v7_layout.specs.declared.inode.Inode.{Inode}
 use Rattle.v7_map.specs.Damage.{place_at}
-use Rattle.v7_map.specs.Frame.{Frame, Place, Body, Single, Double, CanHold, head_of, address_of, frame}
+use Rattle.v7_map.specs.Frame.{Place, head_of, address_of, frame}
 use Rattle.v7_map.specs.Image.{inode_at}
 use Rattle.v7_map.specs.Places.{ArePlaces}
-use Rattle.v7_map.specs.View.{view}
 use Rattle.v7_map.specs.Weak.{IsStrong}
 use Rattle.v7_map.proofs.AnyFrame.{frame-IsFrame}
 use Rattle.v7_map.proofs.PlaceIndex.{index_of, index_found}
 use Rattle.v7_map.proofs.Walks.{or_cases}
-use Rattle.name_plans.specs.Removed.{AreFreed, frees_number, number_given}
+use Rattle.name_plans.specs.Removed.{AreFreed}
 use Rattle.plan_name.specs.Freeing.{AreBlocksOf, Frees}
 
 or_true : (t : Bool) → (t || true) ≡ true

@@ -1,8 +1,7 @@
 -- A REMOVE is planned, or refused.
-use Rattle.std.proofs.Common.{◌≡◌, ℕ, Bool, true, false, ◌==◌, ◌&&◌, if◌then◌else◌, List, [], ◌∷◌, Option, Some, None, refl, sym, ap, subst, ◌∙◌, inl, ltb, unwrap_or}
+use Rattle.std.proofs.Common.{◌≡◌, ℕ, Bool, true, false, ◌==◌, ◌&&◌, if◌then◌else◌, List, [], Option, Some, None, refl, sym, ap, subst, ◌∙◌, ltb, unwrap_or}
 use Rattle.std.specs.FinMap.{get}
 use Rattle.files_model.specs.declared.attributes.FileId.{FileId}
-use Rattle.files_model.specs.declared.call.Call.{Call}
 use Rattle.files_model.specs.declared.call.Call.TheVariants.{Remove}
 use Rattle.files_model.specs.declared.credential.Cred.{Cred}
 use Rattle.files_model.specs.declared.reply.Reply.{Reply}
@@ -10,7 +9,6 @@ use Rattle.files_model.specs.declared.reply.Reply.TheVariants as reply
 use Rattle.files_model.specs.declared.reply.Stat.{Stat}
 use Rattle.files_model.specs.declared.reply.Stat.TheVariants as stat
 use Rattle.files_model.specs.Answers.{at_live, unless, first_of, with_node}
-use Rattle.files_model.specs.Files.{Files}
 use Rattle.files_model.specs.NameRows.{remove_row, remove_tests, loss_tests, less_link}
 use Rattle.files_model.specs.Names.{at_name, without_entry}
 use Rattle.files_model.specs.Step.{step}
@@ -33,19 +31,13 @@ use Rattle.plan_name.specs.Planned.{IsPlannedFreeing, number_back}
 use Rattle.plan_name.specs.Removals.{Refuses, IsTaken, IsPlannedRemoval}
 use Rattle.plan_name.specs.declared.removing_puts.Taking.{Taking}
 use Rattle.plan_name.proofs.BlocksOf.{freed-of}
+use Rattle.plan_name.proofs.NothingPut.{nothing-put}
 use Rattle.plan_name.proofs.RemovingBuilt.{removed-number}
 
 -- a refused call is planned by no puts
 pub refused-planned : (image : Image) (asked : Asked) (now : ℕ) (status : Stat) → IsStrong (frame image) → step (view image) asked.0 asked.1 now ≡ (reply.Refused status, view image) → IsPlannedFreeing image asked now [] (reply.Refused status) [] None
 refused-planned image asked now status strong e = record {
-  plan = record {
-    past = tt;
-    inside = tt;
-    whole = tt;
-    prefixes = record { weak = strong.weak; torn = inl refl };
-    strong = strong;
-    after = sym (ap (λ r. r.1) e);
-  };
+  plan = nothing-put image asked now strong (ap (λ r. r.1) e);
   answered = sym (ap (λ r. r.0) e);
   sets = λ free inodes are. are;
 }

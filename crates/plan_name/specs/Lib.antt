@@ -5,3 +5,4 @@ pub mod Planned
 pub mod Freeing
 pub mod Judging
 pub mod Created
+pub mod Creations

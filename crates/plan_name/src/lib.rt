@@ -4,6 +4,7 @@
 mod creating_puts;
 mod growth;
 mod judging;
+mod judging_creation;
 mod judging_removal;
 mod making;
 mod names;
@@ -24,7 +25,7 @@ pub use new_node::new_file;
 pub use planned::{Freed, Planned};
 pub use removing::plan_remove;
 pub use removing_puts::{Taking, add_removal};
-pub use standing::plan_standing;
+pub use standing::{plan_standing, plan_standing_name};
 
 #[cfg(test)]
 mod tests;

@@ -1,7 +1,6 @@
-use Rattle.std.proofs.Common.{◌≡◌, true, not, ◌==◌, ◌&&◌, ◌∷◌, [], sym, ap, subst, ◌∙◌, Some, None, Option, arith}
+use Rattle.std.proofs.Common.{◌≡◌, true, not, ◌==◌, ◌&&◌, ◌∷◌, [], sym, ap, subst, ◌∙◌, Some, arith}
 use Rattle.files_model.specs.declared.attributes.Attr.{Attr}
 use Rattle.files_model.specs.declared.permission.Want.TheVariants as want
-use Rattle.files_model.specs.declared.reply.Stat.{Stat}
 use Rattle.files_model.specs.declared.reply.Stat.TheVariants as stat
 use Rattle.files_model.specs.Answers.{first_of}
 use Rattle.files_model.specs.Names.{name_tests}

@@ -1,12 +1,9 @@
-use Rattle.std.proofs.Common.{◌≡◌, sym, ap, subst, ◌∙◌, refl, Option, Some, None, List, [], ℕ}
+use Rattle.std.proofs.Common.{ap, subst}
 use Rattle.files_model.specs.declared.call.Call.TheVariants.{Remove}
-use Rattle.files_model.specs.declared.reply.Reply.TheVariants as reply
 use Rattle.files_model.specs.declared.reply.Stat.TheVariants as stat
 use Rattle.stable.specs.Puts.{Reserved}
 use Rattle.stable.specs.Store.{Image}
-use Rattle.v7_map.specs.Frame.{frame}
 use Rattle.v7_map.specs.Found.{Finds}
-use Rattle.plan_name.specs.Planned.{IsPlannedFreeing}
 use Rattle.plan_name.proofs.RemovingJudged.{none_of}
 use Rattle.plan_name.proofs.RemovingPlanned.{refused-planned, removal-stale, same-freeing}
 use Rattle.plan_name.proofs.removing.plan_remove.Goals as goal

@@ -1,11 +1,7 @@
-use Rattle.std.proofs.Common.{◌≡◌, sym, ap, subst, ◌∙◌, refl, arith}
+use Rattle.std.proofs.Common.{ap, subst, ◌∙◌, arith}
 use Rattle.stable.specs.Puts.{Reserved}
 use Rattle.stable.specs.Store.{Image}
-use Rattle.v7_map.specs.Frame.{frame}
-use Rattle.v7_map.specs.Weak.{IsStrong}
-use Rattle.plan_name.specs.Creating.{CanBePut}
 use Rattle.plan_name.specs.Freeing.{Frees}
-use Rattle.plan_name.specs.Removals.{IsPlannedRemoval}
 use Rattle.plan_name.proofs.RemovingPlanned.{removal-planned}
 use Rattle.plan_name.proofs.removing.put_removal.Goals as goal
 

@@ -1,4 +1,4 @@
-use Rattle.std.proofs.Common.{◌++◌, [], ◌∷◌, ap, sym, ◌∙◌, subst, None, arith}
+use Rattle.std.proofs.Common.{◌++◌, [], ◌∷◌, ap, sym, ◌∙◌, subst, arith}
 use Rattle.stable.specs.Puts.{put_all, with_put, Reserved}
 use Rattle.v7_map.specs.Image.{sector_at, inode_sector}
 use Rattle.v7_strokes.specs.Over.{slot_from}
