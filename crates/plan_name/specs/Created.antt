@@ -6,6 +6,7 @@ use Rattle.files_model.specs.declared.attributes.Sattr.{Sattr}
 use Rattle.files_model.specs.declared.call.Call.TheVariants.{Create}
 use Rattle.files_model.specs.declared.credential.Cred.{Cred}
 use Rattle.files_model.specs.declared.reply.Reply.{Reply}
+use Rattle.files_model.specs.declared.reply.Reply.TheVariants as reply
 use Rattle.files_model.specs.Answers.{first_of}
 use Rattle.files_model.specs.Files.{Node, Files, live}
 use Rattle.files_model.specs.NameRows.{create_tests}
@@ -47,3 +48,9 @@ pub record IsPlannedSize (image : Image) (dir : FileId) (name : List ℕ) (wante
   pub plan : IsPlanOf image ((Create dir name wanted, cred) ∷ []) now puts
   pub answered : reply ≡ (step (view image) (Create dir name wanted) cred now).0
   pub sets : (blocks inodes : List Bool) → AreSetsOf image blocks inodes → AreSetsOf (put_all puts image) (given freed blocks) inodes
+
+-- the replies of a call that answers a handle: a refusal, or a handle with attributes
+abbrev pub IsHandleReply : Reply → Type 0
+IsHandleReply (reply.Refused status) = Unit {0}
+IsHandleReply (reply.Handle file attr) = Unit {0}
+IsHandleReply _ = ⊥

@@ -8,7 +8,7 @@ ghost use Rattle.files_model.specs.declared.attributes.Sattr.{Sattr};
 ghost use Rattle.name_plans.specs.Standing.{StandsAlready, with_handle};
 ghost use Rattle.plan_file.specs.Set.{CanBeSet};
 ghost use Rattle.plan_file.specs.declared.fault.PlanFault.TheVariants as fault;
-ghost use Rattle.plan_name.specs.Created.{IsPlannedSize};
+ghost use Rattle.plan_name.specs.Created.{IsHandleReply, IsPlannedSize};
 ghost use Rattle.plan_name.specs.Creations.{IsTakenName};
 ghost use Rattle.stable.specs.Counts.{Rose};
 ghost use Rattle.stable.specs.Looked.{Looked};
@@ -62,6 +62,7 @@ pub fn plan_standing<S: Stable>(
 ) -> Result<PlannedSet, PlanFault>
     ensures planned { S.tells → IsStrong (frame (S.image store.old)) → (dir : FileId) (name : List ℕ) (wanted : Sattr) (d : Node) (k : ℕ) (n : Node) → StandsAlready (view (S.image store.old)) dir name wanted d k file.ino n → file ≡ handle_of (view (S.image store.old)) file.ino → wanted.size ≡ Some size → IfOk result (λ r. IsPlannedSize (S.image store.old) dir name wanted cred.now now r.plan.puts r.reply r.freed.items) }
     ensures fits { IfOk result (λ r. CanBeSet (S.sector_count store.old) 2 r.plan) }
+    ensures form { IfOk result (λ r. IsHandleReply r.reply) }
     ensures cause { IsErrOf result fault.Failed → Rose (S.faults store.old) (S.faults store.new) }
     ensures looked { Looked S.Stable store.old store.new }
 {
@@ -100,6 +101,7 @@ pub fn plan_standing_name<S: Stable>(
 ) -> Result<PlannedSet, PlanFault>
     ensures planned { S.tells → IsStrong (frame (S.image store.old)) → (dir : FileId) (name : List ℕ) → IsTakenName (S.image store.old) dir name wanted.now ino → IfOk result (λ r. IsPlannedSize (S.image store.old) dir name wanted.now cred.now now r.plan.puts r.reply r.freed.items) }
     ensures fits { IfOk result (λ r. CanBeSet (S.sector_count store.old) 2 r.plan) }
+    ensures form { IfOk result (λ r. IsHandleReply r.reply) }
     ensures cause { IsErrOf result fault.Failed → Rose (S.faults store.old) (S.faults store.new) }
     ensures looked { Looked S.Stable store.old store.new }
 {
