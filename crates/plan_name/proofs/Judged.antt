@@ -83,7 +83,7 @@ module _ (image : Image) (p : ℕ) (d : Node) (attr : Attr) (at_end : Bool) (blo
     more i = entry-added d (Some (i, name)) now t.kind s.even
         ∙ sym ((λ z. cond (t.end z) (added_blocks (t.is z).size) 0) ∙ flip ℕ (ltb (place_for d.slots) (length d.slots)) (added_blocks d.size) 0)
 
-    full-is : (i needed : ℕ) → needed ≡ cond at_end (added_blocks attr.size) 0 → is_full_for (view image) d (with_entry d (Some (i, name)) now) ≡ ltb (count_free blocks) needed
+    pub full-is : (i needed : ℕ) → needed ≡ cond at_end (added_blocks attr.size) 0 → is_full_for (view image) d (with_entry d (Some (i, name)) now) ≡ ltb (count_free blocks) needed
     full-is i needed e z = ltb (sym (free_blocks-counted image blocks inodes t.strong t.sets) z) ((more i ∙ sym e) z)
 
     pub told-full : (i needed : ℕ) → IsLowestFrom inodes 3 (Some i) → needed ≡ cond at_end (added_blocks attr.size) 0 → count_free blocks < needed → create_new (view image) p d name wanted cred now ≡ (reply.Refused stat.Nospc, view image)

@@ -18,3 +18,7 @@ mod Made
 mod NewInPlace
 mod StandingPlan
 mod CreatingPlanned
+mod ChosenBlocks
+mod Targets
+mod LayingOut
+mod NewAtEnd

@@ -1,4 +1,4 @@
--- A new file in an empty slot: what its inode and its answer are.
+-- A new file: what its inode and its answer are.
 use Rattle.std.proofs.Common.{◌≡◌, ℕ, ◌+◌, ◌/◌, ◌%◌, ◌<◌, true, List, refl, sym, ap, subst, ◌∙◌, arith, Some, unwrap_or}
 use Rattle.std.specs.FinMap.{get}
 use Rattle.files_model.specs.declared.attributes.Sattr.{Sattr}
@@ -21,7 +21,7 @@ use Rattle.v7_strokes.specs.Over.{slot_from}
 use Rattle.v7_strokes.proofs.NewFile.{made-is_new, made-bare}
 use Rattle.v7_strokes.proofs.Views.{view-inodes, view-generation}
 use Rattle.name_plans.specs.Making.{IsMaking}
-use Rattle.plan_name.specs.Creating.{FitsIn, Makes, made_answer}
+use Rattle.plan_name.specs.Creating.{MayMake, Makes, made_answer}
 use Rattle.plan_name.specs.declared.creating_puts.Entry.{Entry}
 use Rattle.plan_name.proofs.Past.{is_number}
 
@@ -33,7 +33,7 @@ new-attr i g m lt mode kind =
     let bits : (32768 + m.mode) % 4096 ≡ m.mode = omega arith in
     (λ z. record (attr_of i m) { kind = (ap (λ b. kind_of (b / 4096)) mode ∙ ap kind_of type ∙ kind) z; mode = (ap (λ b. b % 4096) mode ∙ bits) z })
 
-module _ (image : Image) (asked : Asked) (now p i index sector : ℕ) (name : List ℕ) (wanted : Sattr) (cred : Cred) (d : Node) (strong : IsStrong (frame image)) (x : FitsIn image asked now p i index sector name wanted cred d) where
+module _ (image : Image) (asked : Asked) (now p i index : ℕ) (name : List ℕ) (wanted : Sattr) (cred : Cred) (d : Node) (strong : IsStrong (frame image)) (x : MayMake image asked now p i index name wanted cred d) where
   within : i < (tree (frame image)).inodes + 1
   within = subst (λ n. i < n + 1) (view-inodes image) x.making.within
 

@@ -24,13 +24,13 @@ use Rattle.v7_map.specs.View.{view}
 use Rattle.v7_map.specs.Weak.{IsStrong}
 use Rattle.v7_sets.specs.Sets.{AreSetsOf}
 use Rattle.v7_sets.specs.declared.sets.Sets.{Sets}
-use Rattle.v7_strokes.specs.Entries.{entry_sector}
 use Rattle.v7_strokes.proofs.Views.{view-generation, view-inodes}
 use Rattle.name_plans.specs.Making.{IsCreation, IsMaking}
+use Rattle.name_plans.specs.Taken.{taken}
 use Rattle.name_plans.proofs.CreatingAccepted.{first_none, creation-step, usable-facts}
 use Rattle.name_plans.proofs.CreatingInPlace.{creation-making}
 use Rattle.plan_name.specs.Created.{IsFreeName, IsPlannedNew, CanBeNumber}
-use Rattle.plan_name.specs.Creating.{FitsIn, IsPlannedMaking, made_answer}
+use Rattle.plan_name.specs.Creating.{MayMake, IsPlannedMaking, made_answer}
 use Rattle.plan_name.specs.Judging.{MayBeMade}
 use Rattle.plan_name.proofs.NothingPut.{nothing-put}
 
@@ -75,8 +75,8 @@ module _ (image : Image) (dir : FileId) (name : List ℕ) (wanted : Sattr) (cred
       stands = omega arith;
     }
 
-    pub new-fits : (index sector : ℕ) → index ≡ place_for d.slots → index < length d.slots → sector ≡ entry_sector image dir.ino index → FitsIn image (Create dir name wanted, cred) now dir.ino i index sector name wanted cred d
-    new-fits index sector place inside stands =
+    pub new-may : (index : ℕ) → index ≡ place_for d.slots → MayMake image (Create dir name wanted, cred) now dir.ino i index name wanted cred d
+    new-may index place =
         let u = usable-facts (view image) i may.usable in
         let a = first_none (not (may_change cred dir.ino d)) stat.Acces ((ltb size_limit (unwrap_or wanted.size 0) || ltb size_limit (with_entry d None 0).size, stat.Fbig) ∷ []) may.entry in
         let b = first_none (ltb size_limit (unwrap_or wanted.size 0) || ltb size_limit (with_entry d None 0).size) stat.Fbig [] a.1 in
@@ -86,17 +86,15 @@ module _ (image : Image) (dir : FileId) (name : List ℕ) (wanted : Sattr) (cred
           making = making;
           size = lt_of (ltb size_limit (with_entry d None 0).size) size_limit (unwrap_or wanted.size 0) b.0;
           place = place;
-          inside = inside;
-          stands = stands;
           fresh = omega arith;
         }
 
-    pub new-planned : (left : Sets) (blocks inodes : List Bool) (puts : List (ℕ × List ℕ)) (answer : Reply) → AreSetsOf image blocks inodes → left.blocks ≡ blocks → left.inodes ≡ set inodes i false
-        → IsPlannedMaking image (Create dir name wanted, cred) now i [] puts → answer ≡ made_answer image i (new_file wanted cred now) → IsPlannedNew image dir name wanted cred now left puts answer
-    new-planned left blocks inodes puts answer sets same_blocks same_inodes plan is = record {
+    pub new-planned : (left : Sets) (blocks inodes : List Bool) (new : List ℕ) (puts : List (ℕ × List ℕ)) (answer : Reply) → AreSetsOf image blocks inodes → left.blocks ≡ taken new blocks → left.inodes ≡ set inodes i false
+        → IsPlannedMaking image (Create dir name wanted, cred) now i new puts → answer ≡ made_answer image i (new_file wanted cred now) → IsPlannedNew image dir name wanted cred now left puts answer
+    new-planned left blocks inodes new puts answer sets same_blocks same_inodes plan is = record {
       plan = plan.plan;
       answered = is ∙ sym (ap (λ (r : Reply × Files). r.0) (creation-step (view image) dir name wanted cred now d i creation));
-      sets = subst (λ b. AreSetsOf (put_all puts image) b left.inodes) (sym same_blocks) (subst (λ n. AreSetsOf (put_all puts image) blocks n) (sym same_inodes) (plan.sets blocks inodes sets));
+      sets = subst (λ b. AreSetsOf (put_all puts image) b left.inodes) (sym same_blocks) (subst (λ n. AreSetsOf (put_all puts image) (taken new blocks) n) (sym same_inodes) (plan.sets blocks inodes sets));
     }
 
 pub inside-of : (d : Node) → false ≡ not (ltb (place_for d.slots) (length d.slots)) → place_for d.slots < length d.slots

@@ -17,6 +17,7 @@ use Rattle.name_plans.specs.Taken.{taken, AreNewBlocks, HasNoBlocks}
 use Rattle.stable.specs.Puts.{put_all, AllStand, AllPastSuperBlock}
 use Rattle.stable.specs.Store.{Image}
 use Rattle.v7_layout.specs.declared.inode.Inode.{Inode}
+use Rattle.v7_layout.specs.declared.slot.Slot.{Slot}
 use Rattle.v7_map.specs.Frame.{Place, Body, Single, frame}
 use Rattle.v7_map.specs.Image.{inode_at, inode_sector}
 use Rattle.v7_map.specs.Plans.{IsPlanOf}
@@ -39,14 +40,18 @@ pub record Makes (image : Image) (asked : Asked) (now i : ℕ) (inode : Inode) (
   pub place : entry.index ≡ place_for d.slots
   pub slot : slot_from entry.slot ≡ Some (i, name)
 
--- A new regular file may be made as i, by an entry in an empty slot of directory p, which stands in this sector.
-pub record FitsIn (image : Image) (asked : Asked) (now p i index sector : ℕ) (name : List ℕ) (wanted : Sattr) (cred : Cred) (d : Node) : Type 0 where
+-- A new regular file may be made as i, by an entry of this name in slot `index` of directory p.
+pub record MayMake (image : Image) (asked : Asked) (now p i index : ℕ) (name : List ℕ) (wanted : Sattr) (cred : Cred) (d : Node) : Type 0 where
   pub making : IsMaking (view image) asked now p name d i (new_file wanted cred now)
   pub size : unwrap_or wanted.size 0 ≤ size_limit
   pub place : index ≡ place_for d.slots
+  pub fresh : (inode_at image i).generation < 2 ^ 32 - 1
+
+-- The slot is an empty one, which stands in this sector.
+pub record FitsIn (image : Image) (asked : Asked) (now p i index sector : ℕ) (name : List ℕ) (wanted : Sattr) (cred : Cred) (d : Node) : Type 0 where
+  pub may : MayMake image asked now p i index name wanted cred d
   pub inside : index < length d.slots
   pub stands : sector ≡ entry_sector image p index
-  pub fresh : (inode_at image i).generation < 2 ^ 32 - 1
 
 -- what answers a call that made node m as i
 abbrev pub made_answer : Image → ℕ → Node → Reply
@@ -88,3 +93,10 @@ pub record CanBePut (sectors most : ℕ) (puts : List (ℕ × List ℕ)) : Type 
   pub few : length puts ≤ most
   pub stand : AllStand sectors puts
   pub past : AllPastSuperBlock puts
+
+-- The slot comes at the directory's end, in this sector, where the directory may get longer, and its blocks are to stand at these places, of which these are new.
+pub record FitsAtEnd (image : Image) (asked : Asked) (now p i index sector : ℕ) (longer : Longer) (name : List ℕ) (wanted : Sattr) (cred : Cred) (d : Node) (target : Place → ℕ) (new : List ℕ) : Type 0 where
+  pub may : MayMake image asked now p i index name wanted cred d
+  pub end : index ≡ length d.slots
+  pub room : d.size + 16 ≤ size_limit
+  pub lays : (slot : Slot) → LaysOut image (record { directory = p; index = index; sector = sector; slot = slot }) longer target new

@@ -6,3 +6,4 @@ pub mod Freeing
 pub mod Judging
 pub mod Created
 pub mod Creations
+pub mod LayingOut

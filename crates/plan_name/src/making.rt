@@ -30,8 +30,8 @@ pub struct Spot {
     pub sector: u32,
 }
 
-// The inode of a new file, whose generation is one above that of the free inode of this number.
-fn next_inode<S: Stable>(
+/// The inode of a new file, whose generation is one above that of the free inode of this number.
+pub(crate) fn next_inode<S: Stable>(
     store: &mut S,
     plan: &Plan,
     ino: u32,

@@ -30,8 +30,8 @@ pub struct PlannedNew {
     pub reply: Reply,
 }
 
-// Nothing is planned, and this is the answer.
-fn refused(alloc: Global, status: Stat) -> PlannedNew
+/// Nothing is planned, and this is the answer.
+pub(crate) fn refused(alloc: Global, status: Stat) -> PlannedNew
     ensures plan { result.plan ≡ record { puts = []; room = 0 } }
     ensures reply { result.reply ≡ reply.Refused status }
 {
@@ -41,8 +41,8 @@ fn refused(alloc: Global, status: Stat) -> PlannedNew
     }
 }
 
-// Whether a store of so many sectors may have an inode of this number, which a slot can name.
-fn can_be_number(sectors: u32, ino: u32) -> bool
+/// Whether a store of so many sectors may have an inode of this number, which a slot can name.
+pub(crate) fn can_be_number(sectors: u32, ino: u32) -> bool
     ensures yes { result ≡ true → CanBeNumber sectors ino }
     ensures no { result ≡ false → CanBeNumber sectors ino → ⊥ }
 {

@@ -6,9 +6,10 @@ use stable::{Failed, Plan, Stable};
 use std::alloc::Global;
 use std::test::Fail;
 use store_mem::Memory;
+use v7_layout::Inode;
 use v7_map::inode_in;
 use v7_sets::Sets;
-use v7_strokes::{Blocks, slot_of};
+use v7_strokes::{Blocks, slot_of, with_inode};
 use volume_mem::{FRESH, test_volume};
 
 const NOTHING: Sattr = Sattr {
@@ -217,5 +218,96 @@ fn a_full_sector_takes_a_free_block(rt: HostRuntime) -> Result<(), Fail> {
         judge_new(&longest, true, &sets, &NOTHING, &caller()),
         Err(Stat::Fbig)
     );
+    Ok(())
+}
+
+// The volume whose root has 32 slots, all of its sector 4, and the root's inode.
+fn full_volume(alloc: Global) -> Result<(Memory, Inode), Fail> {
+    let mut sectors = test_volume(alloc, FRESH).map_err(|_| "memory")?;
+    sectors.truncate(64);
+    if sectors.len() < 64 {
+        return Err("no volume".into());
+    }
+    let root = Inode {
+        size: 512,
+        ..inode_in(&sectors[2], 2)
+    };
+    sectors[2] = with_inode(&sectors[2], 2, &root);
+    let store = Memory::new(alloc, sectors.as_slice()).map_err(|_| "memory")?;
+    Ok((store, root))
+}
+
+#[test]
+fn a_longer_directory_takes_the_lowest_free_blocks(rt: HostRuntime) -> Result<(), Fail> {
+    let alloc = rt.alloc();
+    let (mut store, root) = full_volume(alloc)?;
+    let mut sets = Sets::new(alloc, 64, 17).map_err(|_| "memory")?;
+    sets.blocks.give(9);
+    sets.blocks.give(7);
+    for (size, sector, first, second) in [
+        (48, 4, None, None),
+        (512, 7, Some(7), None),
+        (5120, 7, Some(7), Some(9)),
+    ] {
+        let inode = Inode { size, ..root };
+        let laid = lay_out(&mut store, &sets.blocks, &inode).map_err(|_| "store")?;
+        let Some(laid) = laid else {
+            return Err("no room".into());
+        };
+        assert!(rt; laid.sector == sector && laid.new.sector == first && laid.new.map == second);
+        if let Some(listing) = laid.longer.map {
+            assert!(rt; listing.block == 9 && listing.bytes[0] == 7 && listing.bytes[4] == 0);
+            take_new(&mut sets.blocks, &laid.new);
+        }
+    }
+    assert!(rt; sets.blocks.count() == 0);
+    let none = lay_out(&mut store, &sets.blocks, &root).map_err(|_| "store")?;
+    assert!(rt; none.is_none());
+    Ok(())
+}
+
+// A file is made at second 2000 past the slots of the root, by the superuser.
+fn plan_last(
+    alloc: Global,
+    store: &mut Memory,
+    sets: &mut Sets,
+    inode: &Inode,
+) -> Result<PlannedNew, Fail> {
+    if store.sectors() < 64 {
+        return Err("no volume".into());
+    }
+    let root = FileId {
+        ino: 2,
+        generation: 1,
+    };
+    let cred = Cred {
+        uid: 0,
+        gid: 0,
+        gids: Gids::copy(&[]),
+    };
+    let name = Name::copy(b"new");
+    let planned = plan_new_at_end(
+        alloc, store, sets, root, inode, &name, &NOTHING, &cred, 2000,
+    );
+    Ok(planned.map_err(|_| "not planned")?)
+}
+
+#[test]
+fn a_name_past_32_slots_takes_a_free_block(rt: HostRuntime) -> Result<(), Fail> {
+    let alloc = rt.alloc();
+    let (mut store, root) = full_volume(alloc)?;
+    let mut sets = Sets::new(alloc, 64, 17).map_err(|_| "memory")?;
+    sets.inodes.give(5);
+    let none = plan_last(alloc, &mut store, &mut sets, &root)?;
+    assert!(rt; none.plan.puts().len() == 0 && sets.inodes.count() == 1);
+    assert!(rt; matches!(none.reply, Reply::Refused(Stat::Nospc)));
+    sets.blocks.give(9);
+    let planned = plan_last(alloc, &mut store, &mut sets, &root)?;
+    assert!(rt; matches!(planned.reply, Reply::Handle { .. }));
+    assert!(rt; sets.blocks.count() == 0 && sets.inodes.count() == 0);
+    let puts = planned.plan.puts();
+    assert!(rt; puts.len() == 3 && puts[1].0 == 9 && puts[1].1[0] == 5);
+    let after = inode_in(&puts[2].1, 2);
+    assert!(rt; after.size == 528 && after.direct[0] == 4 && after.direct[1] == 9);
     Ok(())
 }

@@ -17,15 +17,15 @@ returns-clause-planned g c = λ tells strong asked d x.
     let image : Image = S.image c.args.store.now in
     let spot = c.args.spot.now in
     let same : S.image c.next_inode.new.store ≡ image = c.in_ok-inode.ensures.looked.image in
-    let made = c.in_ok-inode.ensures.made tells (fits-number image asked c.args.now spot.directory.ino c.args.ino spot.index spot.sector c.args.name.now c.args.wanted.now c.args.cred.now d strong x) x.fresh in
+    let made = c.in_ok-inode.ensures.made tells (fits-number image asked c.args.now spot.directory.ino c.args.ino spot.index c.args.name.now c.args.wanted.now c.args.cred.now d strong x.may) x.may.fresh in
     let entry : Entry = record { directory = spot.directory.ino; index = spot.index; sector = spot.sector; slot = c.slot_of.result } in
     let slot = c.slot_of.ensures ∙ ap (λ (n : List ℕ). Some (c.args.ino, n)) c.bytes.ensures.bytes in
     let makes : Makes image asked c.args.now c.args.ino c.in_ok-inode.inode entry c.args.name.now d (new_file c.args.wanted.now c.args.cred.now c.args.now) =
-    fits-makes image asked c.args.now spot.directory.ino c.args.ino spot.index spot.sector c.args.name.now c.args.wanted.now c.args.cred.now d strong x c.in_ok-inode.inode made entry refl refl slot in (
+    fits-makes image asked c.args.now spot.directory.ino c.args.ino spot.index c.args.name.now c.args.wanted.now c.args.cred.now d strong x.may c.in_ok-inode.inode made entry refl refl slot in (
       subst (λ (z : Image). IsPlannedMaking z asked c.args.now c.args.ino [] c.add_in_place.new.plan.puts) same
           (c.in_ok-add_in_place.ensures.planned tells (subst (λ (z : Image). IsStrong (frame z)) (sym same) strong) asked c.args.name.now d (new_file c.args.wanted.now c.args.cred.now c.args.now)
           (subst (λ (z : Image). Makes z asked c.args.now c.args.ino c.in_ok-inode.inode entry c.args.name.now d (new_file c.args.wanted.now c.args.cred.now c.args.now)) (sym same) makes)
           x.inside (subst (λ (z : Image). spot.sector ≡ entry_sector z spot.directory.ino spot.index) (sym same) x.stands)),
       ap (λ (a : Attr). reply.Handle (record { ino = c.args.ino; generation = c.in_ok-inode.inode.generation }) a) c.attributes_of-attr.ensures
-          ∙ fits-answer image asked c.args.now spot.directory.ino c.args.ino spot.index spot.sector c.args.name.now c.args.wanted.now c.args.cred.now d strong x c.in_ok-inode.inode made,
+          ∙ fits-answer image asked c.args.now spot.directory.ino c.args.ino spot.index c.args.name.now c.args.wanted.now c.args.cred.now d strong x.may c.in_ok-inode.inode made,
     )

@@ -6,7 +6,8 @@ use Rattle.stable.specs.Store.{Image}
 use Rattle.v7_map.specs.Frame.{frame}
 use Rattle.v7_map.proofs.Whole.{as_long}
 use Rattle.plan_name.specs.Created.{IsPlannedNew}
-use Rattle.plan_name.proofs.NewInPlace.{new-refused, new-number, new-fits, new-planned, inside-of}
+use Rattle.plan_name.specs.Creating.{FitsIn}
+use Rattle.plan_name.proofs.NewInPlace.{new-refused, new-number, new-may, new-planned, inside-of}
 use Rattle.plan_name.proofs.new_in_place.plan_new_in_place.Goals as goal
 
 pub returns-in-Err-clause-planned : goal.returns-in-Err-clause-planned
@@ -35,8 +36,11 @@ returns-clause-planned g c = λ tells d told free place stands.
     let spot = c.args.spot.now in
     let dir = spot.directory in
     let may = c.in-Ok.ensures image dir.ino d c.args.name.now c.args.now told in
-    let fits = new-fits image dir c.args.name.now c.args.wanted.now c.args.cred.now c.args.now d told.strong free c.in-Ok.number may spot.index spot.sector place
-    (subst (λ (k : ℕ). k < length d.slots) (sym place) (inside-of d told.end)) stands in
+    let fits : FitsIn image (Create dir c.args.name.now c.args.wanted.now, c.args.cred.now) c.args.now dir.ino c.in-Ok.number spot.index spot.sector c.args.name.now c.args.wanted.now c.args.cred.now d = record {
+      may = new-may image dir c.args.name.now c.args.wanted.now c.args.cred.now c.args.now d told.strong free c.in-Ok.number may spot.index place;
+      inside = subst (λ (k : ℕ). k < length d.slots) (sym place) (inside-of d told.end);
+      stands = stands;
+    } in
     let made = c.in_ok-reply.ensures.planned tells told.strong (Create dir c.args.name.now c.args.wanted.now, c.args.cred.now) d fits in
     new-planned image dir c.args.name.now c.args.wanted.now c.args.cred.now c.args.now d told.strong free c.in-Ok.number may record { blocks = c.args.sets.now.blocks; inodes = c.take.new.self }
-    c.args.sets.now.blocks c.args.sets.now.inodes c.make_in_place.new.plan.puts c.in_ok-reply.reply told.sets refl c.take.ensures made.0 made.1
+    c.args.sets.now.blocks c.args.sets.now.inodes [] c.make_in_place.new.plan.puts c.in_ok-reply.reply told.sets refl c.take.ensures made.0 made.1

@@ -1,0 +1,82 @@
+// The plan of a CREATE of a free name whose directory has no empty slot.
+
+ghost use Rattle.std.specs.Prelude.{◌≡◌, ◌≢◌, ◌<◌, ◌≤◌, length, true, All, IfOk, OnErr, IsErrOf};
+ghost use Rattle.files_model.specs.Answers.{attr_of};
+ghost use Rattle.files_model.specs.Files.{Node};
+ghost use Rattle.plan_file.specs.declared.fault.PlanFault.TheVariants as fault;
+ghost use Rattle.plan_name.specs.Created.{IsFreeName, IsHandleReply, IsPlannedNew};
+ghost use Rattle.plan_name.specs.Creating.{CanBePut};
+ghost use Rattle.plan_name.specs.Judging.{IsTold};
+ghost use Rattle.stable.specs.Counts.{Rose};
+ghost use Rattle.stable.specs.Looked.{Looked};
+ghost use Rattle.v7_map.specs.Image.{inode_at, inode_sector};
+ghost use Rattle.v7_map.specs.View.{view};
+
+use crate::judging::judge_new;
+use crate::laying_out::{lay_out, take_new};
+use crate::making::Spot;
+use crate::making_at_end::make_at_end;
+use crate::new_in_place::{PlannedNew, can_be_number, refused};
+use files_model::{Cred, FileId, Name, Sattr, Stat};
+use plan_file::PlanFault;
+use stable::{Plan, Stable};
+use std::alloc::Global;
+use v7_layout::Inode;
+use v7_map::attributes_of;
+use v7_sets::Sets;
+
+/// Plans a CREATE (RFC 1094 2.2.10) of a free name whose directory has no empty slot, by the directory's inode: the new inode, the slot's sector, the
+/// block of addresses if it changes, and the directory's inode, which is longer then; nothing where it is refused. Nothing is put. All memory that the
+/// plan needs is taken here. The new i-number and blocks leave the sets of what is free; after a fault the sets are as they were.
+pub fn plan_new_at_end<S: Stable>(
+    alloc: Global,
+    store: &mut S,
+    sets: &mut Sets,
+    directory: FileId,
+    inode: &Inode,
+    name: &Name,
+    wanted: &Sattr,
+    cred: &Cred,
+    now: u32,
+) -> Result<PlannedNew, PlanFault>
+    requires within { inode_sector directory.ino < S.sector_count store.old }
+    requires named { (length name.now ≤ 14) × All (λ byte. byte ≢ 0) name.now }
+    ensures planned { S.tells → (d : Node) → IsTold (S.image store.old) directory.ino d (attr_of directory.ino d) true sets.old.blocks sets.old.inodes → inode.now ≡ inode_at (S.image store.old) directory.ino → IsFreeName (view (S.image store.old)) directory name.now wanted.now d → IfOk result (λ r. IsPlannedNew (S.image store.old) directory name.now wanted.now cred.now now sets.new r.plan.puts r.reply) }
+    ensures fits { IfOk result (λ r. CanBePut (S.sector_count store.old) 4 r.plan.puts) }
+    ensures form { IfOk result (λ r. IsHandleReply r.reply) }
+    ensures kept { OnErr result (sets.new ≡ sets.old) }
+    ensures cause { IsErrOf result fault.Failed → Rose (S.faults store.old) (S.faults store.new) }
+    ensures looked { Looked S.Stable store.old store.new }
+{
+    let attr = attributes_of(directory.ino, inode);
+    let number = match judge_new(&attr, true, sets, wanted, cred) {
+        Ok(number) => number,
+        Err(status) => return Ok(refused(alloc, status)),
+    };
+    if !can_be_number(store.sectors(), number) {
+        return Ok(refused(alloc, Stat::Io));
+    }
+    let Some(laid) = lay_out(store, &sets.blocks, inode)? else {
+        return Ok(refused(alloc, Stat::Io));
+    };
+    let spot = Spot {
+        directory,
+        index: inode.size / 16,
+        sector: laid.sector,
+    };
+    let mut plan = Plan::new(alloc, 4)?;
+    let reply = make_at_end(
+        store,
+        &mut plan,
+        number,
+        &spot,
+        &laid.longer,
+        name,
+        wanted,
+        cred,
+        now,
+    )?;
+    sets.inodes.take(number);
+    take_new(&mut sets.blocks, &laid.new);
+    Ok(PlannedNew { plan, reply })
+}
