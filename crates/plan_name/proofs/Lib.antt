@@ -1,6 +1,9 @@
 mod Bytes
 mod Past
+mod Equals
+mod NothingPut
 mod RemovingBuilt
+mod FoundDirectory
 mod RemovingJudged
 mod BlocksOf
 mod RemovingPlanned
@@ -10,9 +13,11 @@ mod CreatingLaid
 mod Usable
 mod DirectoryUsage
 mod Judged
+mod CreatingJudged
 mod Made
 mod NewInPlace
 mod StandingPlan
+mod CreatingPlanned
 mod ChosenBlocks
 mod Targets
 mod LayingOut

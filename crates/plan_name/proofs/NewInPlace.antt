@@ -1,5 +1,5 @@
 -- What a CREATE of a free name comes to, by what is judged of it.
-use Rattle.std.proofs.Common.{◌≡◌, ℕ, ◌<◌, ◌≤◌, Bool, false, not, ◌||◌, List, [], ◌∷◌, length, set, refl, sym, ap, subst, ◌∙◌, arith, inl, ltb, Some, None, unwrap_or}
+use Rattle.std.proofs.Common.{◌≡◌, ℕ, ◌<◌, ◌≤◌, Bool, false, not, ◌||◌, List, [], ◌∷◌, length, set, sym, ap, subst, ◌∙◌, arith, ltb, Some, None, unwrap_or}
 use Rattle.std.specs.List.{position}
 use Rattle.std.specs.FinMap.{get}
 use Rattle.files_model.specs.declared.attributes.FileId.{FileId}
@@ -32,6 +32,7 @@ use Rattle.name_plans.proofs.CreatingInPlace.{creation-making}
 use Rattle.plan_name.specs.Created.{IsFreeName, IsPlannedNew, CanBeNumber}
 use Rattle.plan_name.specs.Creating.{MayMake, IsPlannedMaking, made_answer}
 use Rattle.plan_name.specs.Judging.{MayBeMade}
+use Rattle.plan_name.proofs.NothingPut.{nothing-put}
 
 lt_of : (b : Bool) (x y : ℕ) → (ltb x y || b) ≡ false → y ≤ x
 lt_of b x y e = grind arith
@@ -51,14 +52,7 @@ module _ (image : Image) (dir : FileId) (name : List ℕ) (wanted : Sattr) (cred
   pub new-refused : (status : Stat) (left : Sets) → create_new (view image) dir.ino d name wanted cred now ≡ (reply.Refused status, view image) → AreSetsOf image left.blocks left.inodes
       → IsPlannedNew image dir name wanted cred now left [] (reply.Refused status)
   new-refused status left e sets = record {
-    plan = record {
-      past = tt;
-      inside = tt;
-      whole = tt;
-      prefixes = record { weak = strong.weak; torn = inl refl };
-      strong = strong;
-      after = sym (ap (λ (r : Reply × Files). r.1) (row ∙ e));
-    };
+    plan = nothing-put image (Create dir name wanted, cred) now strong (ap (λ (r : Reply × Files). r.1) (row ∙ e));
     answered = sym (ap (λ (r : Reply × Files). r.0) (row ∙ e));
     sets = sets;
   }

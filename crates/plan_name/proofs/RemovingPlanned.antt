@@ -1,5 +1,5 @@
 -- A REMOVE is planned, or refused.
-use Rattle.std.proofs.Common.{◌≡◌, ℕ, Bool, true, false, ◌==◌, ◌&&◌, if◌then◌else◌, List, [], Option, Some, None, refl, sym, ap, subst, ◌∙◌, inl, ltb, unwrap_or}
+use Rattle.std.proofs.Common.{◌≡◌, ℕ, Bool, true, false, ◌==◌, ◌&&◌, if◌then◌else◌, List, [], Option, Some, None, refl, sym, ap, subst, ◌∙◌, ltb, unwrap_or}
 use Rattle.std.specs.FinMap.{get}
 use Rattle.files_model.specs.declared.attributes.FileId.{FileId}
 use Rattle.files_model.specs.declared.call.Call.TheVariants.{Remove}
@@ -31,19 +31,13 @@ use Rattle.plan_name.specs.Planned.{IsPlannedFreeing, number_back}
 use Rattle.plan_name.specs.Removals.{Refuses, IsTaken, IsPlannedRemoval}
 use Rattle.plan_name.specs.declared.removing_puts.Taking.{Taking}
 use Rattle.plan_name.proofs.BlocksOf.{freed-of}
+use Rattle.plan_name.proofs.NothingPut.{nothing-put}
 use Rattle.plan_name.proofs.RemovingBuilt.{removed-number}
 
 -- a refused call is planned by no puts
 pub refused-planned : (image : Image) (asked : Asked) (now : ℕ) (status : Stat) → IsStrong (frame image) → step (view image) asked.0 asked.1 now ≡ (reply.Refused status, view image) → IsPlannedFreeing image asked now [] (reply.Refused status) [] None
 refused-planned image asked now status strong e = record {
-  plan = record {
-    past = tt;
-    inside = tt;
-    whole = tt;
-    prefixes = record { weak = strong.weak; torn = inl refl };
-    strong = strong;
-    after = sym (ap (λ r. r.1) e);
-  };
+  plan = nothing-put image asked now strong (ap (λ r. r.1) e);
   answered = sym (ap (λ r. r.0) e);
   sets = λ free inodes are. are;
 }

@@ -6,6 +6,7 @@ use Rattle.files_model.specs.declared.attributes.Sattr.{Sattr}
 use Rattle.files_model.specs.declared.call.Call.TheVariants.{Create}
 use Rattle.files_model.specs.declared.credential.Cred.{Cred}
 use Rattle.files_model.specs.declared.reply.Reply.{Reply}
+use Rattle.files_model.specs.declared.reply.Reply.TheVariants as reply
 use Rattle.files_model.specs.Answers.{first_of}
 use Rattle.files_model.specs.Files.{Node, Files, live}
 use Rattle.files_model.specs.NameRows.{create_tests}
@@ -26,11 +27,15 @@ pub record IsFreeName (files : Files) (dir : FileId) (name : List ℕ) (wanted :
   pub tests : first_of (create_tests files d name wanted) ≡ None
   pub absent : position (has_name name) d.slots ≡ None
 
--- Its plan, its answer, and the sets of what is free once the plan is put.
-pub record IsPlannedNew (image : Image) (dir : FileId) (name : List ℕ) (wanted : Sattr) (cred : Cred) (now : ℕ) (left : Sets) (puts : List (ℕ × List ℕ)) (reply : Reply) : Type 0 where
+-- What a CREATE comes to: its plan, its answer, and the sets of what is free once the plan is put and they are given these blocks.
+pub record IsPlannedCreate (image : Image) (dir : FileId) (name : List ℕ) (wanted : Sattr) (cred : Cred) (now : ℕ) (left : Sets) (puts : List (ℕ × List ℕ)) (reply : Reply) (freed : List ℕ) : Type 0 where
   pub plan : IsPlanOf image ((Create dir name wanted, cred) ∷ []) now puts
   pub answered : reply ≡ (step (view image) (Create dir name wanted) cred now).0
-  pub sets : AreSetsOf (put_all puts image) left.blocks left.inodes
+  pub sets : AreSetsOf (put_all puts image) (given freed left.blocks) left.inodes
+
+-- its plan, its answer, and the sets of what is free once the plan is put, where it frees no block
+abbrev pub IsPlannedNew : Image → FileId → List ℕ → Sattr → Cred → ℕ → Sets → List (ℕ × List ℕ) → Reply → Type 0
+IsPlannedNew image dir name wanted cred now left puts reply = IsPlannedCreate image dir name wanted cred now left puts reply []
 
 -- a store of so many sectors may have an inode of this number, which a slot can name
 pub record CanBeNumber (sectors i : ℕ) : Type 0 where
@@ -43,3 +48,9 @@ pub record IsPlannedSize (image : Image) (dir : FileId) (name : List ℕ) (wante
   pub plan : IsPlanOf image ((Create dir name wanted, cred) ∷ []) now puts
   pub answered : reply ≡ (step (view image) (Create dir name wanted) cred now).0
   pub sets : (blocks inodes : List Bool) → AreSetsOf image blocks inodes → AreSetsOf (put_all puts image) (given freed blocks) inodes
+
+-- the replies of a call that answers a handle: a refusal, or a handle with attributes
+abbrev pub IsHandleReply : Reply → Type 0
+IsHandleReply (reply.Refused status) = Unit {0}
+IsHandleReply (reply.Handle file attr) = Unit {0}
+IsHandleReply _ = ⊥

@@ -5,4 +5,5 @@ pub mod Planned
 pub mod Freeing
 pub mod Judging
 pub mod Created
+pub mod Creations
 pub mod LayingOut

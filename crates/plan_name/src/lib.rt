@@ -2,9 +2,11 @@
 #![tactic(auto)]
 
 mod choosing;
+mod creating;
 mod creating_puts;
 mod growth;
 mod judging;
+mod judging_creation;
 mod judging_removal;
 mod laying_out;
 mod making;
@@ -18,6 +20,7 @@ mod removing;
 mod removing_puts;
 mod standing;
 
+pub use creating::plan_create;
 pub use creating_puts::{Entry, Listing, Longer, add_at_end, add_in_place};
 pub use growth::added_blocks;
 pub use judging::judge_new;
@@ -31,7 +34,7 @@ pub use new_node::new_file;
 pub use planned::{Freed, Planned};
 pub use removing::plan_remove;
 pub use removing_puts::{Taking, add_removal};
-pub use standing::plan_standing;
+pub use standing::{plan_standing, plan_standing_name};
 
 #[cfg(test)]
 mod tests;

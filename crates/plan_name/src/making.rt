@@ -4,6 +4,7 @@ ghost use Rattle.std.specs.Prelude.{◌≡◌, ◌≢◌, ◌<◌, ◌≤◌, �
 ghost use Rattle.files_model.specs.Files.{Node};
 ghost use Rattle.files_model.specs.Names.{new_file};
 ghost use Rattle.files_model.specs.Torn.{Asked};
+ghost use Rattle.plan_name.specs.Created.{IsHandleReply};
 ghost use Rattle.plan_name.specs.Creating.{FitsIn, IsPlannedMaking, CanBePut, made_answer};
 ghost use Rattle.stable.specs.Counts.{HasCause};
 ghost use Rattle.stable.specs.Looked.{Looked};
@@ -68,7 +69,7 @@ pub fn make_in_place<S: Stable>(
     requires within { (inode_sector ino < S.sector_count store.old) × (inode_sector spot.now.directory.ino < S.sector_count store.old) × (spot.now.sector < S.sector_count store.old) × (2 ≤ spot.now.sector) }
     requires named { (length name.now ≤ 14) × All (λ byte. byte ≢ 0) name.now }
     ensures planned { S.tells → IsStrong (frame (S.image store.old)) → (asked : Asked) (d : Node) → FitsIn (S.image store.old) asked now spot.now.directory.ino ino spot.now.index spot.now.sector name.now wanted.now cred.now d → IfOk result (λ r. IsPlannedMaking (S.image store.old) asked now ino [] plan.new.puts × (r ≡ made_answer (S.image store.old) ino (new_file wanted.now cred.now now))) }
-    ensures fits { IfOk result (λ r. CanBePut (S.sector_count store.old) 3 plan.new.puts) }
+    ensures fits { IfOk result (λ r. CanBePut (S.sector_count store.old) 3 plan.new.puts × IsHandleReply r) }
     ensures cause { HasCause (S.faults store.old) (S.faults store.new) result }
     ensures looked { Looked S.Stable store.old store.new }
 {

@@ -4,6 +4,7 @@ ghost use Rattle.std.specs.Prelude.{◌≡◌, ◌≢◌, ◌<◌, ◌≤◌, �
 ghost use Rattle.files_model.specs.Files.{Node};
 ghost use Rattle.files_model.specs.Names.{new_file};
 ghost use Rattle.files_model.specs.Torn.{Asked};
+ghost use Rattle.plan_name.specs.Created.{IsHandleReply};
 ghost use Rattle.plan_name.specs.Creating.{FitsAtEnd, IsPlannedMaking, MapWithin, CanBePut, made_answer};
 ghost use Rattle.stable.specs.Counts.{HasCause};
 ghost use Rattle.stable.specs.Looked.{Looked};
@@ -38,7 +39,7 @@ pub fn make_at_end<S: Stable>(
     requires longer { MapWithin (S.sector_count store.old) longer.now × BlocksFit longer.now.blocks }
     requires named { (length name.now ≤ 14) × All (λ byte. byte ≢ 0) name.now }
     ensures planned { S.tells → IsStrong (frame (S.image store.old)) → (asked : Asked) (d : Node) (target : Place → ℕ) (new : List ℕ) → FitsAtEnd (S.image store.old) asked now spot.now.directory.ino ino spot.now.index spot.now.sector longer.now name.now wanted.now cred.now d target new → IfOk result (λ r. IsPlannedMaking (S.image store.old) asked now ino new plan.new.puts × (r ≡ made_answer (S.image store.old) ino (new_file wanted.now cred.now now))) }
-    ensures fits { IfOk result (λ r. CanBePut (S.sector_count store.old) 4 plan.new.puts) }
+    ensures fits { IfOk result (λ r. CanBePut (S.sector_count store.old) 4 plan.new.puts × IsHandleReply r) }
     ensures cause { HasCause (S.faults store.old) (S.faults store.new) result }
     ensures looked { Looked S.Stable store.old store.new }
 {

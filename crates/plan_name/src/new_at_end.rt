@@ -4,7 +4,7 @@ ghost use Rattle.std.specs.Prelude.{◌≡◌, ◌≢◌, ◌<◌, ◌≤◌, le
 ghost use Rattle.files_model.specs.Answers.{attr_of};
 ghost use Rattle.files_model.specs.Files.{Node};
 ghost use Rattle.plan_file.specs.declared.fault.PlanFault.TheVariants as fault;
-ghost use Rattle.plan_name.specs.Created.{IsFreeName, IsPlannedNew};
+ghost use Rattle.plan_name.specs.Created.{IsFreeName, IsHandleReply, IsPlannedNew};
 ghost use Rattle.plan_name.specs.Creating.{CanBePut};
 ghost use Rattle.plan_name.specs.Judging.{IsTold};
 ghost use Rattle.stable.specs.Counts.{Rose};
@@ -43,6 +43,7 @@ pub fn plan_new_at_end<S: Stable>(
     requires named { (length name.now ≤ 14) × All (λ byte. byte ≢ 0) name.now }
     ensures planned { S.tells → (d : Node) → IsTold (S.image store.old) directory.ino d (attr_of directory.ino d) true sets.old.blocks sets.old.inodes → inode.now ≡ inode_at (S.image store.old) directory.ino → IsFreeName (view (S.image store.old)) directory name.now wanted.now d → IfOk result (λ r. IsPlannedNew (S.image store.old) directory name.now wanted.now cred.now now sets.new r.plan.puts r.reply) }
     ensures fits { IfOk result (λ r. CanBePut (S.sector_count store.old) 4 r.plan.puts) }
+    ensures form { IfOk result (λ r. IsHandleReply r.reply) }
     ensures kept { OnErr result (sets.new ≡ sets.old) }
     ensures cause { IsErrOf result fault.Failed → Rose (S.faults store.old) (S.faults store.new) }
     ensures looked { Looked S.Stable store.old store.new }

@@ -5,7 +5,7 @@ ghost use Rattle.files_model.specs.Files.{Node};
 ghost use Rattle.files_model.specs.Names.{place_for};
 ghost use Rattle.files_model.specs.declared.reply.Reply.TheVariants as reply;
 ghost use Rattle.plan_file.specs.declared.fault.PlanFault.TheVariants as fault;
-ghost use Rattle.plan_name.specs.Created.{CanBeNumber, IsFreeName, IsPlannedNew};
+ghost use Rattle.plan_name.specs.Created.{CanBeNumber, IsFreeName, IsHandleReply, IsPlannedNew};
 ghost use Rattle.plan_name.specs.Creating.{CanBePut};
 ghost use Rattle.plan_name.specs.Judging.{IsTold};
 ghost use Rattle.stable.specs.Counts.{Rose};
@@ -73,6 +73,7 @@ pub fn plan_new_in_place<S: Stable>(
     requires named { (length name.now ≤ 14) × All (λ byte. byte ≢ 0) name.now }
     ensures planned { S.tells → (d : Node) → IsTold (S.image store.old) spot.now.directory.ino d directory.now false sets.old.blocks sets.old.inodes → IsFreeName (view (S.image store.old)) spot.now.directory name.now wanted.now d → spot.now.index ≡ place_for d.slots → spot.now.sector ≡ entry_sector (S.image store.old) spot.now.directory.ino spot.now.index → IfOk result (λ r. IsPlannedNew (S.image store.old) spot.now.directory name.now wanted.now cred.now now sets.new r.plan.puts r.reply) }
     ensures fits { IfOk result (λ r. CanBePut (S.sector_count store.old) 3 r.plan.puts) }
+    ensures form { IfOk result (λ r. IsHandleReply r.reply) }
     ensures kept { OnErr result (sets.new ≡ sets.old) }
     ensures cause { IsErrOf result fault.Failed → Rose (S.faults store.old) (S.faults store.new) }
     ensures looked { Looked S.Stable store.old store.new }

@@ -1,6 +1,6 @@
-// The plan of a CREATE with a set size whose name a regular file has.
+// The plan of a CREATE whose name is there.
 
-ghost use Rattle.std.specs.Prelude.{◌≡◌, ℕ, List, Some, IfOk, IsErrOf};
+ghost use Rattle.std.specs.Prelude.{◌≡◌, ℕ, List, [], Some, IfOk, IsErrOf};
 ghost use Rattle.files_model.specs.Files.{Node};
 ghost use Rattle.files_model.specs.Names.{handle_of, size_alone};
 ghost use Rattle.files_model.specs.declared.attributes.FileId.{FileId};
@@ -8,17 +8,22 @@ ghost use Rattle.files_model.specs.declared.attributes.Sattr.{Sattr};
 ghost use Rattle.name_plans.specs.Standing.{StandsAlready, with_handle};
 ghost use Rattle.plan_file.specs.Set.{CanBeSet};
 ghost use Rattle.plan_file.specs.declared.fault.PlanFault.TheVariants as fault;
-ghost use Rattle.plan_name.specs.Created.{IsPlannedSize};
+ghost use Rattle.plan_name.specs.Created.{IsHandleReply, IsPlannedSize};
+ghost use Rattle.plan_name.specs.Creations.{IsTakenName};
 ghost use Rattle.stable.specs.Counts.{Rose};
 ghost use Rattle.stable.specs.Looked.{Looked};
 ghost use Rattle.v7_map.specs.Frame.{frame};
 ghost use Rattle.v7_map.specs.View.{view};
 ghost use Rattle.v7_map.specs.Weak.{IsStrong};
 
-use files_model::{Cred, FileId, Reply, Sattr};
+use crate::names::standing_refusal;
+use arrayvec::ArrayVec;
+use files_model::{Cred, FileId, Reply, Sattr, Stat};
 use plan_file::{PlanFault, PlannedSet, plan_setattr};
-use stable::Stable;
+use stable::{Plan, Stable};
 use std::alloc::Global;
+use v7_entries::read_inode;
+use v7_map::attributes_of;
 
 // A size alone is set.
 fn size_alone(size: u32) -> Sattr
@@ -57,6 +62,7 @@ pub fn plan_standing<S: Stable>(
 ) -> Result<PlannedSet, PlanFault>
     ensures planned { S.tells → IsStrong (frame (S.image store.old)) → (dir : FileId) (name : List ℕ) (wanted : Sattr) (d : Node) (k : ℕ) (n : Node) → StandsAlready (view (S.image store.old)) dir name wanted d k file.ino n → file ≡ handle_of (view (S.image store.old)) file.ino → wanted.size ≡ Some size → IfOk result (λ r. IsPlannedSize (S.image store.old) dir name wanted cred.now now r.plan.puts r.reply r.freed.items) }
     ensures fits { IfOk result (λ r. CanBeSet (S.sector_count store.old) 2 r.plan) }
+    ensures form { IfOk result (λ r. IsHandleReply r.reply) }
     ensures cause { IsErrOf result fault.Failed → Rose (S.faults store.old) (S.faults store.new) }
     ensures looked { Looked S.Stable store.old store.new }
 {
@@ -67,4 +73,53 @@ pub fn plan_standing<S: Stable>(
         reply: with_handle(file, planned.reply),
         freed: planned.freed,
     })
+}
+
+// Nothing is planned, and this is the answer.
+fn unchanged(alloc: Global, answer: Reply) -> PlannedSet
+    ensures plan { result.plan ≡ record { puts = []; room = 0 } }
+    ensures reply { result.reply ≡ answer }
+    ensures freed { result.freed.items ≡ [] }
+{
+    PlannedSet {
+        plan: Plan::empty(alloc),
+        reply: answer,
+        freed: ArrayVec::new(),
+    }
+}
+
+/// Plans a CREATE whose name this i-number has (RFC 1094 2.2.10): EXIST where it isn't that of a regular file, else with a set size as a SETATTR of that
+/// size, and without one nothing. It answers the file's handle and attributes. Nothing is put. The blocks that are freed may go back to the sets once
+/// the whole plan is put, and not before.
+pub fn plan_standing_name<S: Stable>(
+    alloc: Global,
+    store: &mut S,
+    ino: u32,
+    wanted: &Sattr,
+    cred: &Cred,
+    now: u32,
+) -> Result<PlannedSet, PlanFault>
+    ensures planned { S.tells → IsStrong (frame (S.image store.old)) → (dir : FileId) (name : List ℕ) → IsTakenName (S.image store.old) dir name wanted.now ino → IfOk result (λ r. IsPlannedSize (S.image store.old) dir name wanted.now cred.now now r.plan.puts r.reply r.freed.items) }
+    ensures fits { IfOk result (λ r. CanBeSet (S.sector_count store.old) 2 r.plan) }
+    ensures form { IfOk result (λ r. IsHandleReply r.reply) }
+    ensures cause { IsErrOf result fault.Failed → Rose (S.faults store.old) (S.faults store.new) }
+    ensures looked { Looked S.Stable store.old store.new }
+{
+    let read = read_inode(store, ino)?;
+    let Some(inode) = read else {
+        return Ok(unchanged(alloc, Reply::Refused(Stat::Noent)));
+    };
+    let attr = attributes_of(ino, &inode);
+    match standing_refusal(attr.kind) {
+        Some(status) => return Ok(unchanged(alloc, Reply::Refused(status))),
+        None => {}
+    }
+    let file = FileId {
+        ino,
+        generation: inode.generation,
+    };
+    match wanted.size {
+        Some(size) => plan_standing(alloc, store, file, size, cred, now),
+        None => Ok(unchanged(alloc, Reply::Handle { file, attr })),
+    }
 }

@@ -136,17 +136,19 @@ fn a_number_is_taken_once(rt: HostRuntime) -> Result<(), Fail> {
 }
 
 #[test]
-fn a_file_that_stands_gets_its_size(rt: HostRuntime) -> Result<(), Fail> {
+fn a_name_that_is_there_gets_its_size_or_stays(rt: HostRuntime) -> Result<(), Fail> {
     let alloc = rt.alloc();
     let mut store = volume(alloc)?;
-    let file = FileId {
-        ino: 3,
-        generation: 1,
-    };
-    let planned = plan_standing(alloc, &mut store, file, 0, &caller(), 2000);
-    let planned = planned.map_err(|_| "not planned")?;
-    assert!(rt; planned.plan.puts().len() == 1 && planned.freed.len() == 2);
-    assert!(rt; matches!(planned.reply, Reply::Handle { .. }));
+    for (size, puts, freed) in [(Some(0), 1, 2), (None, 0, 0)] {
+        let wanted = Sattr { size, ..NOTHING };
+        let planned = plan_standing_name(alloc, &mut store, 3, &wanted, &caller(), 2000);
+        let planned = planned.map_err(|_| "not planned")?;
+        assert!(rt; planned.plan.puts().len() == puts && planned.freed.len() == freed);
+        assert!(rt; matches!(planned.reply, Reply::Handle { .. }));
+    }
+    let root = plan_standing_name(alloc, &mut store, 2, &NOTHING, &caller(), 2000);
+    let root = root.map_err(|_| "not planned")?;
+    assert!(rt; matches!(root.reply, Reply::Refused(Stat::Exist)));
     Ok(())
 }
 
