@@ -1,6 +1,5 @@
 -- What a call on names comes to.
 use Rattle.std.specs.Prelude.{◌≡◌, ℕ, Bool, true, List, [], ◌∷◌, length, set, Option, Some, None}
-use Rattle.files_model.specs.declared.reply.Reply.{Reply}
 use Rattle.files_model.specs.Step.{step}
 use Rattle.files_model.specs.Torn.{Asked}
 use Rattle.index_sets.specs.Free.{is_free}
@@ -18,7 +17,7 @@ abbrev pub number_back : Option ℕ → List Bool → List Bool
 number_back None inodes = inodes
 number_back (Some i) inodes = set inodes i true
 
--- no block and no i-number comes to the sets of what is free, and they have room for as many
+-- no block comes to those that are free, and there are as many i-numbers
 pub record TakesFrom (old new : Sets) : Type 0 where
   pub blocks : (b : ℕ) → is_free new.blocks b ≡ true → is_free old.blocks b ≡ true
   pub numbers : length new.inodes ≡ length old.inodes
@@ -28,9 +27,3 @@ pub record IsPlannedCall (image : Image) (asked : Asked) (now : ℕ) (left : Set
   pub plan : IsPlanOf image (asked ∷ []) now made.plan.puts
   pub answered : made.reply ≡ (step (view image) asked.0 asked.1 now).0
   pub sets : AreSetsOf (put_all made.plan.puts image) (given made.freed.blocks.items left.blocks) (number_back made.freed.inode left.inodes)
-
--- A call that takes names away: its plan, its answer, and what the sets of what is free are to be given once the plan is put.
-pub record IsPlannedFreeing (image : Image) (asked : Asked) (now : ℕ) (puts : List (ℕ × List ℕ)) (reply : Reply) (blocks : List ℕ) (number : Option ℕ) : Type 0 where
-  pub plan : IsPlanOf image (asked ∷ []) now puts
-  pub answered : reply ≡ (step (view image) asked.0 asked.1 now).0
-  pub sets : (free inodes : List Bool) → AreSetsOf image free inodes → AreSetsOf (put_all puts image) (given blocks free) (number_back number inodes)
