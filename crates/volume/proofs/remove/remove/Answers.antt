@@ -13,8 +13,8 @@ returns-in-Ok-clause-rest g c =
     let made = c.in-Ok.ensures in
     let asked : Asked = (Remove c.args.dir c.args.name.now, c.args.cred.now) in
     (c.carry_out.ensures.carried asked.0 asked.1 c.args.now refl (done_form c.args.dir c.args.name.now c.in-Ok.planned.reply made.form) (λ told.
-        planned_looked (S.image c.args.store.now) (S.image c.plan_remove.new.store) asked c.args.now c.args.sets.now c.in-Ok.planned made.looked.image
-        (made.planned told (rest.strong told refl) c.args.sets.now (rest.are_sets told refl)))).rest
+    planned_looked (S.image c.args.store.now) (S.image c.plan_remove.new.store) asked c.args.now c.args.sets.now c.in-Ok.planned made.looked.image
+    (made.planned told (rest.strong told refl) c.args.sets.now (rest.are_sets told refl)))).rest
 
 pub returns-in-Ok-clause-applied : goal.returns-in-Ok-clause-applied
 returns-in-Ok-clause-applied g c =
@@ -24,8 +24,8 @@ returns-in-Ok-clause-applied g c =
     let asked : Asked = (Remove c.args.dir c.args.name.now, c.args.cred.now) in
     applies_looked S g.met.S.Stable.clocked asked.0 asked.1 c.args.now c.args.store.now c.plan_remove.new.store c.carry_out.new.store _ c.carry_out.result rest.weak made.looked
     (c.carry_out.ensures.carried asked.0 asked.1 c.args.now refl (done_form c.args.dir c.args.name.now c.in-Ok.planned.reply made.form) (λ told.
-        planned_looked (S.image c.args.store.now) (S.image c.plan_remove.new.store) asked c.args.now c.args.sets.now c.in-Ok.planned made.looked.image
-        (made.planned told (rest.strong told refl) c.args.sets.now (rest.are_sets told refl)))).applied
+    planned_looked (S.image c.args.store.now) (S.image c.plan_remove.new.store) asked c.args.now c.args.sets.now c.in-Ok.planned made.looked.image
+    (made.planned told (rest.strong told refl) c.args.sets.now (rest.are_sets told refl)))).applied
 
 pub returns-in-Err-Failed-clause-snapshot : goal.returns-in-Err-Failed-clause-snapshot
 returns-in-Err-Failed-clause-snapshot g c =
