@@ -1,5 +1,5 @@
 -- A call on names that is carried out.
-use Rattle.std.proofs.Common.{◌≡◌, ℕ, ◌<◌, ◌≤◌, Bool, true, false, List, [], ◌∷◌, take, length, set, length-set, Option, Some, None, refl, sym, ap, ◌∙◌, subst, arith}
+use Rattle.std.proofs.Common.{◌≡◌, ℕ, ◌<◌, ◌≤◌, Bool, true, false, List, [], ◌∷◌, length, length-set, Option, Some, None, refl, sym, ap, ◌∙◌, subst, arith}
 use Rattle.files_model.specs.declared.attributes.FileId.{FileId}
 use Rattle.files_model.specs.declared.attributes.Sattr.{Sattr}
 use Rattle.files_model.specs.declared.call.Call.{Call}
@@ -20,7 +20,7 @@ use Rattle.stable.specs.Moments.{IsClocked, LeavesOnly}
 use Rattle.stable.specs.Puts.{put_all, AfterSome, AllPastSuperBlock}
 use Rattle.stable.specs.Store.{Image}
 use Rattle.stable.specs.declared.store.Stable.{Ghosts}
-use Rattle.stable.proofs.Clocked.{ends, weaker}
+use Rattle.stable.proofs.Clocked.{weaker}
 use Rattle.v7_make.specs.Chains.{FitStore}
 use Rattle.v7_map.specs.Frame.{frame}
 use Rattle.v7_map.specs.Plans.{IsPlanOf, IsTornImage}
@@ -31,10 +31,9 @@ use Rattle.v7_sets.specs.Sets.{AreSetsOf}
 use Rattle.v7_sets.specs.declared.sets.Sets.{Sets}
 use Rattle.volume.specs.declared.outcome.Outcome.{Outcome}
 use Rattle.volume.specs.declared.outcome.Outcome.TheVariants as outcome
-use Rattle.volume.specs.Applied.{Applies, HasForm, IsMomentOf, TakesMemory, hurts}
-use Rattle.volume.specs.Carried.{Carries}
+use Rattle.volume.specs.Applied.{Applies, HasForm, hurts}
 use Rattle.volume.specs.Keeps.{SameName, SameVolume}
-use Rattle.volume.specs.Rests.{IsAtRest, RestsOn}
+use Rattle.volume.specs.Rests.{IsAtRest}
 use Rattle.volume.proofs.Applying.{torn_same}
 use Rattle.volume.proofs.Committing.{torn_planned}
 use Rattle.volume.proofs.GivenBack.{length-given}

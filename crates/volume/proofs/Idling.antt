@@ -6,7 +6,7 @@ use Rattle.files_model.specs.declared.attributes.FileId.{FileId}
 use Rattle.files_model.specs.declared.credential.Cred.{Cred}
 use Rattle.files_model.specs.declared.reply.Reply.{Reply}
 use Rattle.files_model.specs.declared.reply.Stat.{Stat}
-use Rattle.files_model.specs.Answers.{at_live, unless, attr_of, first_of}
+use Rattle.files_model.specs.Answers.{at_live, unless}
 use Rattle.files_model.specs.Files.{Files, Node, live}
 use Rattle.files_model.specs.Names.{at_node, at_slot, number_at, has_name}
 use Rattle.files_model.specs.NameRows.{lookup_row}

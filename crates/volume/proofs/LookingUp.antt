@@ -1,5 +1,5 @@
 -- What a LOOKUP answers, by what it found.
-use Rattle.std.proofs.Common.{◌≡◌, ℕ, true, false, cond, List, Option, Some, None, refl, sym, ap, subst, ◌∙◌}
+use Rattle.std.proofs.Common.{◌≡◌, ℕ, true, false, cond, List, Option, Some, None, sym, ap, subst, ◌∙◌}
 use Rattle.std.specs.List.{position}
 use Rattle.files_model.specs.declared.attributes.FileId.{FileId}
 use Rattle.files_model.specs.declared.credential.Cred.{Cred}
@@ -15,12 +15,12 @@ use Rattle.v7_layout.specs.declared.inode.Inode.{Inode}
 use Rattle.v7_map.specs.Image.{inode_at, is_inode}
 use Rattle.v7_map.specs.Frame as frames
 use Rattle.v7_map.specs.Frame.{frame}
-use Rattle.v7_map.specs.Stored.{is_standing, stored_attr, answer_by}
+use Rattle.v7_map.specs.Stored.{is_standing, answer_by}
 use Rattle.v7_map.specs.View.{view}
 use Rattle.v7_map.specs.Weak.{IsStrong}
 use Rattle.v7_map.specs.declared.found.Found.{Found}
 use Rattle.v7_map.specs.Found.{IsFile}
-use Rattle.v7_entries.specs.Answers.{lookup_refusal_by, search_refusal_by, handle_reply, answer_at, lookup_answer}
+use Rattle.v7_entries.specs.Answers.{lookup_refusal_by, search_refusal_by, handle_reply, answer_at}
 use Rattle.v7_entries.specs.Bodies.{HasBody, slots_at}
 use Rattle.v7_entries.specs.Found.{FindsName, IsNamedSlot}
 use Rattle.v7_entries.specs.declared.named.NamedSlot.{NamedSlot}

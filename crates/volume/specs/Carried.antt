@@ -1,5 +1,5 @@
 -- What a call on names does to a volume once it is planned.
-use Rattle.std.specs.Prelude.{◌≡◌, ℕ, false}
+use Rattle.std.specs.Prelude.{ℕ, false}
 use Rattle.files_model.specs.declared.call.Call.{Call}
 use Rattle.files_model.specs.declared.credential.Cred.{Cred}
 use Rattle.stable.specs.declared.store.Stable.{Ghosts}

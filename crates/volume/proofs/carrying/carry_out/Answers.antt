@@ -1,7 +1,4 @@
-use Rattle.std.proofs.Common.{rules, arith, List, ◌∷◌, [], refl, ap, ◌∙◌}
-use Rattle.files_model.specs.declared.call.Call.{Call}
-use Rattle.files_model.specs.declared.credential.Cred.{Cred}
-use Rattle.plan_name.specs.Planned.{IsPlannedCall}
+use Rattle.std.proofs.Common.{rules, arith, refl, ap, ◌∙◌}
 use Rattle.stable.proofs.Clocked.{ends, weaker}
 use Rattle.v7_map.specs.View.{view}
 use Rattle.v7_map.proofs.Whole.{as_long}

@@ -1,4 +1,4 @@
-use Rattle.std.proofs.Common.{◌∷◌, [], refl}
+use Rattle.std.proofs.Common.{refl}
 use Rattle.files_model.specs.declared.call.Call.TheVariants.{Create}
 use Rattle.files_model.specs.Torn.{Asked}
 use Rattle.volume.specs.Costs.{create_puts}

@@ -1,10 +1,8 @@
 use Rattle.std.proofs.Common.{arith, true, ◌≡◌, Option, Some, None, ap, sym, subst, ◌∙◌}
 use Rattle.files_model.specs.declared.attributes.Attr.{Attr}
-use Rattle.files_model.specs.declared.call.Call.{Call}
 use Rattle.files_model.specs.declared.call.Call.TheVariants.{Lookup}
 use Rattle.files_model.specs.declared.reply.Reply.TheVariants as reply
 use Rattle.files_model.specs.declared.reply.Stat.TheVariants as stat
-use Rattle.stable.specs.Counts.{Rose}
 use Rattle.stable.specs.Looked.{Looked}
 use Rattle.stable.specs.Store.{Image}
 use Rattle.stable.proofs.Looking.{looks_again}
@@ -14,7 +12,7 @@ use Rattle.v7_map.specs.Image.{inode_at, is_inode}
 use Rattle.v7_map.specs.Weak.{IsWeak}
 use Rattle.v7_map.specs.declared.found.Found.{Found}
 use Rattle.v7_map.specs.Found.{Finds, IsFile}
-use Rattle.v7_entries.specs.Answers.{handle_reply, lookup_refusal_by, search_refusal_by}
+use Rattle.v7_entries.specs.Answers.{lookup_refusal_by, search_refusal_by}
 use Rattle.v7_entries.specs.Bodies.{HasBody}
 use Rattle.v7_entries.specs.Found.{FindsName, IsNamedSlot}
 use Rattle.v7_entries.specs.declared.named.NamedSlot.{NamedSlot}

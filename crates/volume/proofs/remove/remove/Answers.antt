@@ -1,9 +1,9 @@
-use Rattle.std.proofs.Common.{◌∷◌, [], refl}
+use Rattle.std.proofs.Common.{refl}
 use Rattle.files_model.specs.declared.call.Call.TheVariants.{Remove}
 use Rattle.files_model.specs.Torn.{Asked}
 use Rattle.volume.specs.Costs.{remove_puts}
 use Rattle.volume.proofs.CarriedOut.{applies_looked, done_form, planned_looked}
-use Rattle.volume.proofs.Counting.{cost_looked}
+use Rattle.volume.proofs.Counting.{cost_looked, cost_planned}
 use Rattle.volume.proofs.remove.remove.Goals as goal
 
 pub returns-in-Ok-clause-rest : goal.returns-in-Ok-clause-rest
@@ -36,3 +36,8 @@ pub returns-in-Err-NoMemory-clause-snapshot : goal.returns-in-Err-NoMemory-claus
 returns-in-Err-NoMemory-clause-snapshot g c =
     let looked = c.in-Err-NoMemory.ensures.looked in
     cost_looked g.S.Stable g.met.S.Stable.counted c.args.store.now c.plan_remove.new.store remove_puts remove_puts looked.later looked.snapshot
+
+pub returns-in-Ok-clause-snapshot : goal.returns-in-Ok-clause-snapshot
+returns-in-Ok-clause-snapshot g c =
+    let made = c.in-Ok.ensures in
+    cost_planned g.S.Stable _ c.args.store.now c.plan_remove.new.store c.carry_out.new.store remove_puts remove_puts made.looked made.fits.few (λ told. made.fits.few) c.carry_out.ensures.puts

@@ -1,4 +1,4 @@
-use Rattle.std.proofs.Common.{rules, subst, Option, None, refl}
+use Rattle.std.proofs.Common.{subst, Option, refl}
 use Rattle.files_model.specs.declared.call.Call.TheVariants.{Statfs}
 use Rattle.files_model.specs.declared.reply.Reply.TheVariants as reply
 use Rattle.files_model.specs.declared.reply.Stat.TheVariants as stat
