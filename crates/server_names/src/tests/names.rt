@@ -1,8 +1,8 @@
 //! LOOKUP and STATFS, through datagrams.
 
-use crate::tests::outside::{datagram, has_sent_all, rig_of, served_all};
-use crate::tests::volumes::{is_stopped, is_volume, rig};
-use crate::tests::worked::{CALL, CREDENTIAL, HANDLE, REPLY, add_words};
+use server_runs::outside::{datagram, has_sent_all, rig_of, served_all};
+use server_runs::volumes::{is_stopped, is_volume, rig};
+use server_runs::worked::{CALL, CREDENTIAL, HANDLE, REPLY, add_words};
 use std::alloc::Global;
 use std::test::Fail;
 use volume_mem::FRESH;

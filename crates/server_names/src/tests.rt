@@ -1,0 +1,3 @@
+//! Runs over memory: names that are looked up.
+
+mod names;
