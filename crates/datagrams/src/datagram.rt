@@ -68,6 +68,8 @@ fn is_known(call: &Call) -> bool
             | Call::Lookup { .. }
             | Call::Read { .. }
             | Call::Write { .. }
+            | Call::Create { .. }
+            | Call::Remove { .. }
             | Call::Statfs { .. }
     )
 }

@@ -75,7 +75,7 @@ length-taken : (blocks : List ℕ) (free : List Bool) → length (taken blocks f
 length-taken [] free = refl
 length-taken (a ∷ rest) free = length-taken rest (set free a false) ∙ length-set free a false
 
-taken-only : (blocks : List ℕ) (free : List Bool) (b : ℕ) → is_free (taken blocks free) b ≡ true → is_free free b ≡ true
+pub taken-only : (blocks : List ℕ) (free : List Bool) (b : ℕ) → is_free (taken blocks free) b ≡ true → is_free free b ≡ true
 taken-only blocks free b h = ⊎_elim (λ (t : is_free free b ≡ true). t) (λ (no' : is_free free b ≡ false). absurd (clash h (taken-stays blocks free b no'))) (cases_Bool (is_free free b))
 
 -- ---- blocks

@@ -4,10 +4,6 @@ use Rattle.std.specs.List.{position}
 use Rattle.files_model.specs.declared.attributes.Attr.{Attr}
 use Rattle.files_model.specs.declared.attributes.FileId.{FileId}
 use Rattle.files_model.specs.declared.attributes.Sattr.{Sattr}
-use Rattle.files_model.specs.declared.credential.Cred.{Cred}
-use Rattle.files_model.specs.declared.reply.Reply.{Reply}
-use Rattle.files_model.specs.declared.reply.Reply.TheVariants as reply
-use Rattle.files_model.specs.declared.reply.Stat.{Stat}
 use Rattle.files_model.specs.declared.reply.Stat.TheVariants as stat
 use Rattle.files_model.specs.Answers.{at_live, unless, first_of, attr_of}
 use Rattle.files_model.specs.Files.{Node}
@@ -20,27 +16,14 @@ use Rattle.v7_map.specs.View.{view, node_at}
 use Rattle.v7_map.specs.Weak.{IsStrong}
 use Rattle.v7_map.proofs.Standing.{live-standing}
 use Rattle.v7_sets.specs.Sets.{AreSetsOf}
-use Rattle.v7_sets.specs.declared.sets.Sets.{Sets}
-use Rattle.plan_name.specs.Created.{IsPlannedCreate, IsPlannedSize}
 use Rattle.plan_name.specs.Creations.{RefusesCreation, IsFreeIn}
 use Rattle.plan_name.specs.Judging.{IsTold}
-use Rattle.plan_name.proofs.StandingPlan.{unchanged-planned}
 
 pub creation-stale : (image : Image) (dir : FileId) (name : List ℕ) (wanted : Sattr) → IsStrong (frame image) → is_standing image dir ≡ false → RefusesCreation image dir name wanted stat.Stale
 unfolding create_row
 creation-stale image dir name wanted strong stale cred now =
     ap (λ o. at_live (view image) o (λ d. unless (view image) (first_of (create_tests (view image) d name wanted)) (create_at (view image) dir.ino d name wanted cred now (position (has_name name) d.slots))))
     (live-standing image strong dir ∙ ap (λ b. if b then Some (node_at image dir.ino) else None) stale)
-
--- what a name that is there comes to, and the sets that stay
-pub created-size : (image : Image) (dir : FileId) (name : List ℕ) (wanted : Sattr) (cred : Cred) (now : ℕ) (left : Sets) (puts : List (ℕ × List ℕ)) (answer : Reply) (freed : List ℕ) → AreSetsOf image left.blocks left.inodes
-    → IsPlannedSize image dir name wanted cred now puts answer freed → IsPlannedCreate image dir name wanted cred now left puts answer freed
-created-size image dir name wanted cred now left puts answer freed are p = record { plan = p.plan; answered = p.answered; sets = p.sets left.blocks left.inodes are }
-
-pub created-nothing : (image : Image) (dir : FileId) (name : List ℕ) (wanted : Sattr) (cred : Cred) (now : ℕ) (left : Sets) (status : Stat) → IsStrong (frame image) → AreSetsOf image left.blocks left.inodes
-    → RefusesCreation image dir name wanted status → IsPlannedCreate image dir name wanted cred now left [] (reply.Refused status) []
-created-nothing image dir name wanted cred now left status strong are refuses =
-    created-size image dir name wanted cred now left [] (reply.Refused status) [] are (unchanged-planned image dir name wanted cred now (reply.Refused status) strong (refuses cred now))
 
 -- what is told of a directory in which the name is free
 pub told-free : (image : Image) (dir : FileId) (name : List ℕ) (wanted : Sattr) (at_end : Bool) (d : Node) (attr : Attr) (blocks inodes : List Bool) → IsStrong (frame image) → AreSetsOf image blocks inodes

@@ -2,6 +2,7 @@ mod Bytes
 mod Past
 mod Equals
 mod NothingPut
+mod PlannedCall
 mod RemovingBuilt
 mod FoundDirectory
 mod RemovingJudged

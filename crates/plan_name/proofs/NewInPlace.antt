@@ -1,5 +1,5 @@
 -- What a CREATE of a free name comes to, by what is judged of it.
-use Rattle.std.proofs.Common.{◌≡◌, ℕ, ◌<◌, ◌≤◌, Bool, false, not, ◌||◌, List, [], ◌∷◌, length, set, sym, ap, subst, ◌∙◌, arith, ltb, Some, None, unwrap_or}
+use Rattle.std.proofs.Common.{◌≡◌, ℕ, ◌<◌, ◌≤◌, Bool, false, not, ◌||◌, List, [], ◌∷◌, length, set, refl, sym, ap, subst, ◌∙◌, arith, ltb, Some, None, unwrap_or}
 use Rattle.std.specs.List.{position}
 use Rattle.std.specs.FinMap.{get}
 use Rattle.files_model.specs.declared.attributes.FileId.{FileId}
@@ -29,10 +29,12 @@ use Rattle.name_plans.specs.Making.{IsCreation, IsMaking}
 use Rattle.name_plans.specs.Taken.{taken}
 use Rattle.name_plans.proofs.CreatingAccepted.{first_none, creation-step, usable-facts}
 use Rattle.name_plans.proofs.CreatingInPlace.{creation-making}
-use Rattle.plan_name.specs.Created.{IsFreeName, IsPlannedNew, CanBeNumber}
+use Rattle.plan_name.specs.Created.{IsFreeName, CanBeNumber}
 use Rattle.plan_name.specs.Creating.{MayMake, IsPlannedMaking, made_answer}
 use Rattle.plan_name.specs.Judging.{MayBeMade}
-use Rattle.plan_name.proofs.NothingPut.{nothing-put}
+use Rattle.plan_name.specs.Planned.{IsPlannedCall}
+use Rattle.plan_name.specs.declared.planned.Planned.{Planned}
+use Rattle.plan_name.proofs.PlannedCall.{sets-by, unchanged-call}
 
 lt_of : (b : Bool) (x y : ℕ) → (ltb x y || b) ≡ false → y ≤ x
 lt_of b x y e = grind arith
@@ -49,13 +51,9 @@ module _ (image : Image) (dir : FileId) (name : List ℕ) (wanted : Sattr) (cred
       ∙ (λ z. unless (view image) (free.tests z) (create_at (view image) dir.ino d name wanted cred now (free.absent z)))
 
   -- a refusal plans nothing
-  pub new-refused : (status : Stat) (left : Sets) → create_new (view image) dir.ino d name wanted cred now ≡ (reply.Refused status, view image) → AreSetsOf image left.blocks left.inodes
-      → IsPlannedNew image dir name wanted cred now left [] (reply.Refused status)
-  new-refused status left e sets = record {
-    plan = nothing-put image (Create dir name wanted, cred) now strong (ap (λ (r : Reply × Files). r.1) (row ∙ e));
-    answered = sym (ap (λ (r : Reply × Files). r.0) (row ∙ e));
-    sets = sets;
-  }
+  pub new-refused : (status : Stat) (left : Sets) (made : Planned) → create_new (view image) dir.ino d name wanted cred now ≡ (reply.Refused status, view image) → AreSetsOf image left.blocks left.inodes
+      → made.plan ≡ record { puts = []; room = 0 } → made.reply ≡ reply.Refused status → made.freed.blocks.items ≡ [] → made.freed.inode ≡ None → IsPlannedCall image (Create dir name wanted, cred) now left made
+  new-refused status left made e are plan answer blocks number = unchanged-call image (Create dir name wanted, cred) now left made (reply.Refused status) strong are (row ∙ e) plan answer blocks number
 
   module _ (i : ℕ) (may : MayBeMade (view image) dir.ino d name (unwrap_or wanted.size 0) cred now i) where
     creation : IsCreation (view image) dir name wanted cred now d i
@@ -89,12 +87,14 @@ module _ (image : Image) (dir : FileId) (name : List ℕ) (wanted : Sattr) (cred
           fresh = omega arith;
         }
 
-    pub new-planned : (left : Sets) (blocks inodes : List Bool) (new : List ℕ) (puts : List (ℕ × List ℕ)) (answer : Reply) → AreSetsOf image blocks inodes → left.blocks ≡ taken new blocks → left.inodes ≡ set inodes i false
-        → IsPlannedMaking image (Create dir name wanted, cred) now i new puts → answer ≡ made_answer image i (new_file wanted cred now) → IsPlannedNew image dir name wanted cred now left puts answer
-    new-planned left blocks inodes new puts answer sets same_blocks same_inodes plan is = record {
+    pub new-planned : (left : Sets) (blocks inodes : List Bool) (new : List ℕ) (made : Planned) → AreSetsOf image blocks inodes → left.blocks ≡ taken new blocks → left.inodes ≡ set inodes i false
+        → IsPlannedMaking image (Create dir name wanted, cred) now i new made.plan.puts → made.reply ≡ made_answer image i (new_file wanted cred now) → made.freed.blocks.items ≡ [] → made.freed.inode ≡ None
+        → IsPlannedCall image (Create dir name wanted, cred) now left made
+    new-planned left blocks inodes new made are same_blocks same_inodes plan is none no_number = record {
       plan = plan.plan;
       answered = is ∙ sym (ap (λ (r : Reply × Files). r.0) (creation-step (view image) dir name wanted cred now d i creation));
-      sets = subst (λ b. AreSetsOf (put_all puts image) b left.inodes) (sym same_blocks) (subst (λ n. AreSetsOf (put_all puts image) (taken new blocks) n) (sym same_inodes) (plan.sets blocks inodes sets));
+      sets = sets-by image (Create dir name wanted, cred) now left made refl none no_number
+          (subst (λ b. AreSetsOf (put_all made.plan.puts image) b left.inodes) (sym same_blocks) (subst (λ n. AreSetsOf (put_all made.plan.puts image) (taken new blocks) n) (sym same_inodes) (plan.sets blocks inodes are)));
     }
 
 pub inside-of : (d : Node) → false ≡ not (ltb (place_for d.slots) (length d.slots)) → place_for d.slots < length d.slots

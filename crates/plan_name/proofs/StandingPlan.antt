@@ -29,30 +29,24 @@ use Rattle.v7_map.proofs.Standing.{attr_of-stored, node-is, generation-is}
 use Rattle.name_plans.specs.Standing.{StandsAlready, with_handle}
 use Rattle.name_plans.proofs.CreatingStanding.{standing-step, standing-plan}
 use Rattle.plan_file.specs.Set.{IsPlannedSet}
-use Rattle.plan_name.specs.Created.{IsPlannedSize}
+use Rattle.v7_sets.specs.Sets.{AreSetsOf}
+use Rattle.v7_sets.specs.declared.sets.Sets.{Sets}
 use Rattle.plan_name.specs.Creations.{IsTakenName}
-use Rattle.plan_name.proofs.NothingPut.{nothing-put}
+use Rattle.plan_name.specs.Planned.{IsPlannedCall}
+use Rattle.plan_name.specs.declared.planned.Planned.{Planned}
+use Rattle.plan_name.proofs.PlannedCall.{sets-by}
 
 pub standing-planned : (image : Image) (dir : FileId) (name : List ℕ) (wanted : Sattr) (cred : Cred) (now : ℕ) (d : Node) (k : ℕ) (n : Node) (file : FileId) (size : ℕ) → IsStrong (frame image)
     → StandsAlready (view image) dir name wanted d k file.ino n → file ≡ handle_of (view image) file.ino → wanted.size ≡ Some size
-    → (puts : List (ℕ × List ℕ)) (set_reply reply : Reply) (freed : List ℕ) → reply ≡ with_handle file set_reply → IsPlannedSet image file (size_alone size) cred now puts set_reply freed
-    → IsPlannedSize image dir name wanted cred now puts reply freed
-standing-planned image dir name wanted cred now d k n file size strong x handle sized puts set_reply reply freed is p = record {
-  plan = standing-plan image dir name wanted cred now d k file.ino n strong x size sized puts
-      (subst (λ (f : FileId). IsPlanOf image ((Setattr f (size_alone size), cred) ∷ []) now puts) handle p.plan);
+    → (left : Sets) → AreSetsOf image left.blocks left.inodes → (made : Planned) (set_reply : Reply) → made.reply ≡ with_handle file set_reply → made.freed.inode ≡ None
+    → IsPlannedSet image file (size_alone size) cred now made.plan.puts set_reply made.freed.blocks.items → IsPlannedCall image (Create dir name wanted, cred) now left made
+standing-planned image dir name wanted cred now d k n file size strong x handle sized left are made set_reply is none p = record {
+  plan = standing-plan image dir name wanted cred now d k file.ino n strong x size sized made.plan.puts
+      (subst (λ (f : FileId). IsPlanOf image ((Setattr f (size_alone size), cred) ∷ []) now made.plan.puts) handle p.plan);
   answered = is ∙ ap (with_handle file) p.answered
       ∙ ap (λ (f : FileId). with_handle f (step (view image) (Setattr f (size_alone size)) cred now).0) handle
       ∙ sym (ap (λ (r : Reply × Files). r.0) (standing-step image dir name wanted cred now d k file.ino n strong x size sized));
-  sets = p.sets;
-}
-
--- an answer that leaves the files
-pub unchanged-planned : (image : Image) (dir : FileId) (name : List ℕ) (wanted : Sattr) (cred : Cred) (now : ℕ) (answer : Reply) → IsStrong (frame image) → step (view image) (Create dir name wanted) cred now ≡ (answer, view image)
-    → IsPlannedSize image dir name wanted cred now [] answer []
-unchanged-planned image dir name wanted cred now answer strong e = record {
-  plan = nothing-put image (Create dir name wanted, cred) now strong (ap (λ (r : Reply × Files). r.1) e);
-  answered = sym (ap (λ (r : Reply × Files). r.0) e);
-  sets = λ blocks inodes are. are;
+  sets = sets-by image (Create dir name wanted, cred) now left made refl refl none (p.sets left.blocks left.inodes are);
 }
 
 -- ---- the row of a name that is there

@@ -1,9 +1,11 @@
 // The plan of a CREATE.
 
-ghost use Rattle.std.specs.Prelude.{◌≡◌, [], None, IfOk, OnErr, IsErrOf};
+ghost use Rattle.std.specs.Prelude.{◌≡◌, ◌≤◌, IfOk, OnErr, IsErrOf};
+ghost use Rattle.files_model.specs.declared.call.Call.TheVariants.{Create};
 ghost use Rattle.plan_file.specs.declared.fault.PlanFault.TheVariants as fault;
-ghost use Rattle.plan_name.specs.Created.{IsHandleReply, IsPlannedCreate};
+ghost use Rattle.plan_name.specs.Created.{IsHandleReply};
 ghost use Rattle.plan_name.specs.Creating.{CanBePut};
+ghost use Rattle.plan_name.specs.Planned.{IsPlannedCall, TakesFrom};
 ghost use Rattle.stable.specs.Counts.{Rose};
 ghost use Rattle.stable.specs.Looked.{Looked};
 ghost use Rattle.v7_map.specs.Frame.{frame};
@@ -12,50 +14,15 @@ ghost use Rattle.v7_sets.specs.Sets.{AreSetsOf};
 
 use crate::judging_creation::{Creation, judge_creation};
 use crate::new_at_end::plan_new_at_end;
-use crate::new_in_place::{PlannedNew, plan_new_in_place};
-use crate::planned::{Freed, Planned, refused};
+use crate::new_in_place::plan_new_in_place;
+use crate::planned::{Planned, refused};
 use crate::standing::plan_standing_name;
-use arrayvec::ArrayVec;
 use files_model::{Cred, FileId, Name, Sattr, Stat};
-use plan_file::{PlanFault, PlannedSet};
+use plan_file::PlanFault;
 use stable::Stable;
 use std::alloc::Global;
 use v7_map::find;
 use v7_sets::Sets;
-
-// A new file frees nothing.
-fn with_none_freed(new: PlannedNew) -> Planned
-    ensures plan { result.plan ≡ new.plan }
-    ensures reply { result.reply ≡ new.reply }
-    ensures blocks { result.freed.blocks.items ≡ [] }
-    ensures inode { result.freed.inode ≡ None }
-{
-    Planned {
-        plan: new.plan,
-        reply: new.reply,
-        freed: Freed {
-            blocks: ArrayVec::new(),
-            inode: None,
-        },
-    }
-}
-
-// A file that stands frees blocks alone.
-fn with_blocks_freed(set: PlannedSet) -> Planned
-    ensures plan { result.plan ≡ set.plan }
-    ensures reply { result.reply ≡ set.reply }
-    ensures blocks { result.freed.blocks.items ≡ set.freed.items }
-    ensures inode { result.freed.inode ≡ None }
-{
-    Planned {
-        plan: set.plan,
-        reply: set.reply,
-        freed: Freed {
-            blocks: set.freed,
-            inode: None,
-        },
-    }
-}
 
 /// Plans a CREATE (RFC 1094 2.2.10): STALE, the refusals of its directory and name, then by what the name has. A file that is there gets a set size. A
 /// new one takes the lowest i-number that is free, and its entry the first empty slot, or one at the directory's end. Nothing is put. All memory that the
@@ -71,10 +38,11 @@ pub fn plan_create<S: Stable>(
     cred: &Cred,
     now: u32,
 ) -> Result<Planned, PlanFault>
-    ensures planned { S.tells → IsStrong (frame (S.image store.old)) → AreSetsOf (S.image store.old) sets.old.blocks sets.old.inodes → IfOk result (λ r. IsPlannedCreate (S.image store.old) dir name.now wanted.now cred.now now sets.new r.plan.puts r.reply r.freed.blocks.items) }
+    ensures planned { S.tells → IsStrong (frame (S.image store.old)) → AreSetsOf (S.image store.old) sets.old.blocks sets.old.inodes → IfOk result (λ r. IsPlannedCall (S.image store.old) (Create dir name.now wanted.now, cred.now) now sets.new r) }
     ensures fits { IfOk result (λ r. CanBePut (S.sector_count store.old) 4 r.plan.puts) }
     ensures form { IfOk result (λ r. IsHandleReply r.reply) }
-    ensures number { IfOk result (λ r. r.freed.inode ≡ None) }
+    ensures room { IfOk result (λ r. r.plan.room ≤ 4) }
+    ensures takes { TakesFrom sets.old sets.new }
     ensures kept { OnErr result (sets.new ≡ sets.old) }
     ensures cause { IsErrOf result fault.Failed → Rose (S.faults store.old) (S.faults store.new) }
     ensures looked { Looked S.Stable store.old store.new }
@@ -86,17 +54,12 @@ pub fn plan_create<S: Stable>(
     let judged = judge_creation(store, dir, &found, name, wanted)?;
     match judged {
         Creation::Refused(status) => Ok(refused(alloc, status)),
-        Creation::Stands(ino) => {
-            let standing = plan_standing_name(alloc, store, ino, wanted, cred, now)?;
-            Ok(with_blocks_freed(standing))
-        }
+        Creation::Stands(ino) => plan_standing_name(alloc, store, ino, wanted, cred, now),
         Creation::InPlace(spot, attr) => {
-            let new = plan_new_in_place(alloc, store, sets, &attr, &spot, name, wanted, cred, now)?;
-            Ok(with_none_freed(new))
+            plan_new_in_place(alloc, store, sets, &attr, &spot, name, wanted, cred, now)
         }
         Creation::AtEnd(inode) => {
-            let new = plan_new_at_end(alloc, store, sets, dir, &inode, name, wanted, cred, now)?;
-            Ok(with_none_freed(new))
+            plan_new_at_end(alloc, store, sets, dir, &inode, name, wanted, cred, now)
         }
     }
 }

@@ -62,6 +62,7 @@ pub fn add_in_place<S: Stable>(
     requires fits { AddressesFit inode.now }
     ensures planned { S.tells → IsStrong (frame (S.image store.old)) → (asked : Asked) (name : List ℕ) (d m : Node) → Makes (S.image store.old) asked now ino inode.now entry.now name d m → entry.now.index < length d.slots → entry.now.sector ≡ entry_sector (S.image store.old) entry.now.directory entry.now.index → OnOk result (IsPlannedMaking (S.image store.old) asked now ino [] plan.new.puts) }
     ensures fits { OnOk result (CanBePut (S.sector_count store.old) 3 plan.new.puts) }
+    ensures room { OnOk result (plan.new.room ≡ plan.old.room) }
     ensures cause { HasCause (S.faults store.old) (S.faults store.new) result }
     ensures looked { Looked S.Stable store.old store.new }
 {
@@ -137,6 +138,7 @@ pub fn add_at_end<S: Stable>(
     requires fits { AddressesFit inode.now × BlocksFit longer.now.blocks }
     ensures planned { S.tells → IsStrong (frame (S.image store.old)) → (asked : Asked) (name : List ℕ) (d m : Node) (target : Place → ℕ) (new : List ℕ) → Makes (S.image store.old) asked now ino inode.now entry.now name d m → entry.now.index ≡ length d.slots → d.size + 16 ≤ size_limit → LaysOut (S.image store.old) entry.now longer.now target new → OnOk result (IsPlannedMaking (S.image store.old) asked now ino new plan.new.puts) }
     ensures fits { OnOk result (CanBePut (S.sector_count store.old) 4 plan.new.puts) }
+    ensures room { OnOk result (plan.new.room ≡ plan.old.room) }
     ensures cause { HasCause (S.faults store.old) (S.faults store.new) result }
     ensures looked { Looked S.Stable store.old store.new }
 {

@@ -29,7 +29,7 @@ pub use making::{Spot, make_in_place};
 pub use making_at_end::make_at_end;
 pub use names::{create_refusal, entry_refusal, name_refusal, standing_refusal};
 pub use new_at_end::plan_new_at_end;
-pub use new_in_place::{PlannedNew, plan_new_in_place};
+pub use new_in_place::plan_new_in_place;
 pub use new_node::new_file;
 pub use planned::{Freed, Planned};
 pub use removing::plan_remove;

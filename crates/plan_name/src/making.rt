@@ -1,6 +1,6 @@
 // A new file in an empty slot of its directory.
 
-ghost use Rattle.std.specs.Prelude.{◌≡◌, ◌≢◌, ◌<◌, ◌≤◌, ◌+◌, ◌-◌, ◌^◌, ℕ, List, [], length, true, IfOk, All};
+ghost use Rattle.std.specs.Prelude.{◌≡◌, ◌≢◌, ◌<◌, ◌≤◌, ◌+◌, ◌-◌, ◌^◌, ℕ, List, [], length, true, IfOk, OnOk, All};
 ghost use Rattle.files_model.specs.Files.{Node};
 ghost use Rattle.files_model.specs.Names.{new_file};
 ghost use Rattle.files_model.specs.Torn.{Asked};
@@ -70,6 +70,7 @@ pub fn make_in_place<S: Stable>(
     requires named { (length name.now ≤ 14) × All (λ byte. byte ≢ 0) name.now }
     ensures planned { S.tells → IsStrong (frame (S.image store.old)) → (asked : Asked) (d : Node) → FitsIn (S.image store.old) asked now spot.now.directory.ino ino spot.now.index spot.now.sector name.now wanted.now cred.now d → IfOk result (λ r. IsPlannedMaking (S.image store.old) asked now ino [] plan.new.puts × (r ≡ made_answer (S.image store.old) ino (new_file wanted.now cred.now now))) }
     ensures fits { IfOk result (λ r. CanBePut (S.sector_count store.old) 3 plan.new.puts × IsHandleReply r) }
+    ensures room { OnOk result (plan.new.room ≡ plan.old.room) }
     ensures cause { HasCause (S.faults store.old) (S.faults store.new) result }
     ensures looked { Looked S.Stable store.old store.new }
 {

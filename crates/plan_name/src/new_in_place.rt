@@ -1,13 +1,14 @@
 // The plan of a CREATE of a free name whose directory has an empty slot.
 
-ghost use Rattle.std.specs.Prelude.{◌≡◌, ◌≢◌, ◌<◌, ◌≤◌, [], length, true, false, All, IfOk, OnErr, IsErrOf};
+ghost use Rattle.std.specs.Prelude.{◌≡◌, ◌≢◌, ◌<◌, ◌≤◌, length, true, false, All, IfOk, OnErr, IsErrOf};
 ghost use Rattle.files_model.specs.Files.{Node};
 ghost use Rattle.files_model.specs.Names.{place_for};
-ghost use Rattle.files_model.specs.declared.reply.Reply.TheVariants as reply;
+ghost use Rattle.files_model.specs.declared.call.Call.TheVariants.{Create};
 ghost use Rattle.plan_file.specs.declared.fault.PlanFault.TheVariants as fault;
-ghost use Rattle.plan_name.specs.Created.{CanBeNumber, IsFreeName, IsHandleReply, IsPlannedNew};
+ghost use Rattle.plan_name.specs.Created.{CanBeNumber, IsFreeName, IsHandleReply};
 ghost use Rattle.plan_name.specs.Creating.{CanBePut};
 ghost use Rattle.plan_name.specs.Judging.{IsTold};
+ghost use Rattle.plan_name.specs.Planned.{IsPlannedCall, TakesFrom};
 ghost use Rattle.stable.specs.Counts.{Rose};
 ghost use Rattle.stable.specs.Looked.{Looked};
 ghost use Rattle.v7_map.specs.Image.{inode_sector};
@@ -16,30 +17,13 @@ ghost use Rattle.v7_strokes.specs.Entries.{entry_sector};
 
 use crate::judging::judge_new;
 use crate::making::{Spot, make_in_place};
-use files_model::{Attr, Cred, Name, Reply, Sattr, Stat};
+use crate::planned::{Planned, none_freed, refused};
+use files_model::{Attr, Cred, Name, Sattr, Stat};
 use plan_file::PlanFault;
 use stable::{Plan, Stable};
 use std::alloc::Global;
 use v7_map::inode_sector_of;
 use v7_sets::Sets;
-
-/// What a CREATE of a free name comes to: a plan, which is empty where it is refused, and its reply.
-#[derive(Drop)]
-pub struct PlannedNew {
-    pub plan: Plan,
-    pub reply: Reply,
-}
-
-/// Nothing is planned, and this is the answer.
-pub(crate) fn refused(alloc: Global, status: Stat) -> PlannedNew
-    ensures plan { result.plan ≡ record { puts = []; room = 0 } }
-    ensures reply { result.reply ≡ reply.Refused status }
-{
-    PlannedNew {
-        plan: Plan::empty(alloc),
-        reply: Reply::Refused(status),
-    }
-}
 
 /// Whether a store of so many sectors may have an inode of this number, which a slot can name.
 pub(crate) fn can_be_number(sectors: u32, ino: u32) -> bool
@@ -68,12 +52,14 @@ pub fn plan_new_in_place<S: Stable>(
     wanted: &Sattr,
     cred: &Cred,
     now: u32,
-) -> Result<PlannedNew, PlanFault>
+) -> Result<Planned, PlanFault>
     requires within { (inode_sector spot.now.directory.ino < S.sector_count store.old) × (spot.now.sector < S.sector_count store.old) × (2 ≤ spot.now.sector) }
     requires named { (length name.now ≤ 14) × All (λ byte. byte ≢ 0) name.now }
-    ensures planned { S.tells → (d : Node) → IsTold (S.image store.old) spot.now.directory.ino d directory.now false sets.old.blocks sets.old.inodes → IsFreeName (view (S.image store.old)) spot.now.directory name.now wanted.now d → spot.now.index ≡ place_for d.slots → spot.now.sector ≡ entry_sector (S.image store.old) spot.now.directory.ino spot.now.index → IfOk result (λ r. IsPlannedNew (S.image store.old) spot.now.directory name.now wanted.now cred.now now sets.new r.plan.puts r.reply) }
+    ensures planned { S.tells → (d : Node) → IsTold (S.image store.old) spot.now.directory.ino d directory.now false sets.old.blocks sets.old.inodes → IsFreeName (view (S.image store.old)) spot.now.directory name.now wanted.now d → spot.now.index ≡ place_for d.slots → spot.now.sector ≡ entry_sector (S.image store.old) spot.now.directory.ino spot.now.index → IfOk result (λ r. IsPlannedCall (S.image store.old) (Create spot.now.directory name.now wanted.now, cred.now) now sets.new r) }
     ensures fits { IfOk result (λ r. CanBePut (S.sector_count store.old) 3 r.plan.puts) }
+    ensures room { IfOk result (λ r. r.plan.room ≤ 3) }
     ensures form { IfOk result (λ r. IsHandleReply r.reply) }
+    ensures takes { TakesFrom sets.old sets.new }
     ensures kept { OnErr result (sets.new ≡ sets.old) }
     ensures cause { IsErrOf result fault.Failed → Rose (S.faults store.old) (S.faults store.new) }
     ensures looked { Looked S.Stable store.old store.new }
@@ -88,5 +74,9 @@ pub fn plan_new_in_place<S: Stable>(
     let mut plan = Plan::new(alloc, 3)?;
     let reply = make_in_place(store, &mut plan, number, spot, name, wanted, cred, now)?;
     sets.inodes.take(number);
-    Ok(PlannedNew { plan, reply })
+    Ok(Planned {
+        plan,
+        reply,
+        freed: none_freed(),
+    })
 }

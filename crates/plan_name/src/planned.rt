@@ -22,6 +22,31 @@ pub struct Planned {
     pub freed: Freed,
 }
 
+/// Nothing is freed.
+pub(crate) fn none_freed() -> Freed
+    ensures blocks { result.blocks.items ≡ [] }
+    ensures inode { result.inode ≡ None }
+{
+    Freed {
+        blocks: ArrayVec::new(),
+        inode: None,
+    }
+}
+
+/// Nothing is planned, and this is the answer.
+pub(crate) fn unchanged(alloc: Global, answer: Reply) -> Planned
+    ensures plan { result.plan ≡ record { puts = []; room = 0 } }
+    ensures reply { result.reply ≡ answer }
+    ensures blocks { result.freed.blocks.items ≡ [] }
+    ensures inode { result.freed.inode ≡ None }
+{
+    Planned {
+        plan: Plan::empty(alloc),
+        reply: answer,
+        freed: none_freed(),
+    }
+}
+
 /// Nothing is planned, and the call is refused so.
 pub(crate) fn refused(alloc: Global, status: Stat) -> Planned
     ensures plan { result.plan ≡ record { puts = []; room = 0 } }
@@ -29,12 +54,5 @@ pub(crate) fn refused(alloc: Global, status: Stat) -> Planned
     ensures blocks { result.freed.blocks.items ≡ [] }
     ensures inode { result.freed.inode ≡ None }
 {
-    Planned {
-        plan: Plan::empty(alloc),
-        reply: Reply::Refused(status),
-        freed: Freed {
-            blocks: ArrayVec::new(),
-            inode: None,
-        },
-    }
+    unchanged(alloc, Reply::Refused(status))
 }

@@ -1,17 +1,20 @@
 // The plan of a REMOVE.
 
-ghost use Rattle.std.specs.Prelude.{◌≡◌, ℕ, List, nat_lt, ◌&&◌, Some, None, if◌then◌else◌, IfOk, IsErrOf};
+ghost use Rattle.std.specs.Prelude.{◌≡◌, ◌≤◌, ℕ, List, nat_lt, ◌&&◌, Some, None, if◌then◌else◌, IfOk, IsErrOf};
 ghost use Rattle.files_model.specs.declared.attributes.FileId.{FileId};
 ghost use Rattle.files_model.specs.declared.credential.Cred.{Cred};
 ghost use Rattle.files_model.specs.declared.call.Call.TheVariants.{Remove};
 ghost use Rattle.plan_file.specs.declared.fault.PlanFault.TheVariants as fault;
-ghost use Rattle.plan_name.specs.Planned.{IsPlannedFreeing};
-ghost use Rattle.plan_name.specs.Freeing.{AreBlocksOf, Frees, CanBeTaken, IsDoneReply};
+ghost use Rattle.plan_name.specs.Creating.{CanBePut};
+ghost use Rattle.plan_name.specs.Planned.{IsPlannedCall};
+ghost use Rattle.plan_name.specs.Freeing.{AreBlocksOf, Frees, IsDoneReply};
 ghost use Rattle.plan_name.specs.Removals.{IsTaken, TakenWithin};
 ghost use Rattle.stable.specs.Counts.{HasCause, Rose};
 ghost use Rattle.stable.specs.Looked.{Looked};
 ghost use Rattle.v7_map.specs.Frame.{frame};
 ghost use Rattle.v7_map.specs.Weak.{IsStrong};
+ghost use Rattle.v7_sets.specs.Sets.{AreSetsOf};
+ghost use Rattle.v7_sets.specs.declared.sets.Sets.{Sets};
 
 use crate::judging_removal::{Judged, judge_removal};
 use crate::planned::{Freed, Planned, refused};
@@ -75,8 +78,9 @@ fn put_removal<S: Stable>(
     now: u32,
 ) -> Result<Planned, PlanFault>
     requires within { TakenWithin (S.sector_count store.old) taking.now }
-    ensures planned { S.tells → IsStrong (frame (S.image store.old)) → (dir : FileId) (name : List ℕ) (cred : Cred) → IsTaken (S.image store.old) dir name cred taking.now inode.now → IfOk result (λ r. IsPlannedFreeing (S.image store.old) (Remove dir name, cred) now r.plan.puts r.reply r.freed.blocks.items r.freed.inode) }
-    ensures fits { IfOk result (λ r. CanBeTaken (S.sector_count store.old) r.plan) }
+    ensures planned { S.tells → IsStrong (frame (S.image store.old)) → (dir : FileId) (name : List ℕ) (cred : Cred) → IsTaken (S.image store.old) dir name cred taking.now inode.now → (sets : Sets) → AreSetsOf (S.image store.old) sets.blocks sets.inodes → IfOk result (λ r. IsPlannedCall (S.image store.old) (Remove dir name, cred) now sets r) }
+    ensures fits { IfOk result (λ r. CanBePut (S.sector_count store.old) 3 r.plan.puts) }
+    ensures room { IfOk result (λ r. r.plan.room ≤ 3) }
     ensures form { IfOk result (λ r. IsDoneReply r.reply) }
     ensures cause { IsErrOf result fault.Failed → Rose (S.faults store.old) (S.faults store.new) }
     ensures looked { Looked S.Stable store.old store.new }
@@ -106,8 +110,9 @@ pub fn plan_remove<S: Stable>(
     cred: &Cred,
     now: u32,
 ) -> Result<Planned, PlanFault>
-    ensures planned { S.tells → IsStrong (frame (S.image store.old)) → IfOk result (λ r. IsPlannedFreeing (S.image store.old) (Remove dir name.now, cred.now) now r.plan.puts r.reply r.freed.blocks.items r.freed.inode) }
-    ensures fits { IfOk result (λ r. CanBeTaken (S.sector_count store.old) r.plan) }
+    ensures planned { S.tells → IsStrong (frame (S.image store.old)) → (sets : Sets) → AreSetsOf (S.image store.old) sets.blocks sets.inodes → IfOk result (λ r. IsPlannedCall (S.image store.old) (Remove dir name.now, cred.now) now sets r) }
+    ensures fits { IfOk result (λ r. CanBePut (S.sector_count store.old) 3 r.plan.puts) }
+    ensures room { IfOk result (λ r. r.plan.room ≤ 3) }
     ensures form { IfOk result (λ r. IsDoneReply r.reply) }
     ensures cause { IsErrOf result fault.Failed → Rose (S.faults store.old) (S.faults store.new) }
     ensures looked { Looked S.Stable store.old store.new }

@@ -1,26 +1,30 @@
 // The plan of a CREATE whose name is there.
 
-ghost use Rattle.std.specs.Prelude.{◌≡◌, ℕ, List, [], Some, IfOk, IsErrOf};
+ghost use Rattle.std.specs.Prelude.{◌≡◌, ℕ, List, Some, IfOk, IsErrOf};
 ghost use Rattle.files_model.specs.Files.{Node};
 ghost use Rattle.files_model.specs.Names.{handle_of, size_alone};
 ghost use Rattle.files_model.specs.declared.attributes.FileId.{FileId};
 ghost use Rattle.files_model.specs.declared.attributes.Sattr.{Sattr};
+ghost use Rattle.files_model.specs.declared.call.Call.TheVariants.{Create};
 ghost use Rattle.name_plans.specs.Standing.{StandsAlready, with_handle};
 ghost use Rattle.plan_file.specs.Set.{CanBeSet};
 ghost use Rattle.plan_file.specs.declared.fault.PlanFault.TheVariants as fault;
-ghost use Rattle.plan_name.specs.Created.{IsHandleReply, IsPlannedSize};
+ghost use Rattle.plan_name.specs.Created.{IsHandleReply};
 ghost use Rattle.plan_name.specs.Creations.{IsTakenName};
+ghost use Rattle.plan_name.specs.Planned.{IsPlannedCall};
 ghost use Rattle.stable.specs.Counts.{Rose};
 ghost use Rattle.stable.specs.Looked.{Looked};
 ghost use Rattle.v7_map.specs.Frame.{frame};
 ghost use Rattle.v7_map.specs.View.{view};
 ghost use Rattle.v7_map.specs.Weak.{IsStrong};
+ghost use Rattle.v7_sets.specs.Sets.{AreSetsOf};
+ghost use Rattle.v7_sets.specs.declared.sets.Sets.{Sets};
 
 use crate::names::standing_refusal;
-use arrayvec::ArrayVec;
+use crate::planned::{Freed, Planned, refused, unchanged};
 use files_model::{Cred, FileId, Reply, Sattr, Stat};
-use plan_file::{PlanFault, PlannedSet, plan_setattr};
-use stable::{Plan, Stable};
+use plan_file::{PlanFault, plan_setattr};
+use stable::Stable;
 use std::alloc::Global;
 use v7_entries::read_inode;
 use v7_map::attributes_of;
@@ -59,8 +63,8 @@ pub fn plan_standing<S: Stable>(
     size: u32,
     cred: &Cred,
     now: u32,
-) -> Result<PlannedSet, PlanFault>
-    ensures planned { S.tells → IsStrong (frame (S.image store.old)) → (dir : FileId) (name : List ℕ) (wanted : Sattr) (d : Node) (k : ℕ) (n : Node) → StandsAlready (view (S.image store.old)) dir name wanted d k file.ino n → file ≡ handle_of (view (S.image store.old)) file.ino → wanted.size ≡ Some size → IfOk result (λ r. IsPlannedSize (S.image store.old) dir name wanted cred.now now r.plan.puts r.reply r.freed.items) }
+) -> Result<Planned, PlanFault>
+    ensures planned { S.tells → IsStrong (frame (S.image store.old)) → (dir : FileId) (name : List ℕ) (wanted : Sattr) (d : Node) (k : ℕ) (n : Node) → StandsAlready (view (S.image store.old)) dir name wanted d k file.ino n → file ≡ handle_of (view (S.image store.old)) file.ino → wanted.size ≡ Some size → (sets : Sets) → AreSetsOf (S.image store.old) sets.blocks sets.inodes → IfOk result (λ r. IsPlannedCall (S.image store.old) (Create dir name wanted, cred.now) now sets r) }
     ensures fits { IfOk result (λ r. CanBeSet (S.sector_count store.old) 2 r.plan) }
     ensures form { IfOk result (λ r. IsHandleReply r.reply) }
     ensures cause { IsErrOf result fault.Failed → Rose (S.faults store.old) (S.faults store.new) }
@@ -68,24 +72,14 @@ pub fn plan_standing<S: Stable>(
 {
     let set = size_alone(size);
     let planned = plan_setattr(alloc, store, file, &set, cred, now)?;
-    Ok(PlannedSet {
+    Ok(Planned {
         plan: planned.plan,
         reply: with_handle(file, planned.reply),
-        freed: planned.freed,
+        freed: Freed {
+            blocks: planned.freed,
+            inode: None,
+        },
     })
-}
-
-// Nothing is planned, and this is the answer.
-fn unchanged(alloc: Global, answer: Reply) -> PlannedSet
-    ensures plan { result.plan ≡ record { puts = []; room = 0 } }
-    ensures reply { result.reply ≡ answer }
-    ensures freed { result.freed.items ≡ [] }
-{
-    PlannedSet {
-        plan: Plan::empty(alloc),
-        reply: answer,
-        freed: ArrayVec::new(),
-    }
 }
 
 /// Plans a CREATE whose name this i-number has (RFC 1094 2.2.10): EXIST where it isn't that of a regular file, else with a set size as a SETATTR of that
@@ -98,8 +92,8 @@ pub fn plan_standing_name<S: Stable>(
     wanted: &Sattr,
     cred: &Cred,
     now: u32,
-) -> Result<PlannedSet, PlanFault>
-    ensures planned { S.tells → IsStrong (frame (S.image store.old)) → (dir : FileId) (name : List ℕ) → IsTakenName (S.image store.old) dir name wanted.now ino → IfOk result (λ r. IsPlannedSize (S.image store.old) dir name wanted.now cred.now now r.plan.puts r.reply r.freed.items) }
+) -> Result<Planned, PlanFault>
+    ensures planned { S.tells → IsStrong (frame (S.image store.old)) → (dir : FileId) (name : List ℕ) → IsTakenName (S.image store.old) dir name wanted.now ino → (sets : Sets) → AreSetsOf (S.image store.old) sets.blocks sets.inodes → IfOk result (λ r. IsPlannedCall (S.image store.old) (Create dir name wanted.now, cred.now) now sets r) }
     ensures fits { IfOk result (λ r. CanBeSet (S.sector_count store.old) 2 r.plan) }
     ensures form { IfOk result (λ r. IsHandleReply r.reply) }
     ensures cause { IsErrOf result fault.Failed → Rose (S.faults store.old) (S.faults store.new) }
@@ -107,11 +101,11 @@ pub fn plan_standing_name<S: Stable>(
 {
     let read = read_inode(store, ino)?;
     let Some(inode) = read else {
-        return Ok(unchanged(alloc, Reply::Refused(Stat::Noent)));
+        return Ok(refused(alloc, Stat::Noent));
     };
     let attr = attributes_of(ino, &inode);
     match standing_refusal(attr.kind) {
-        Some(status) => return Ok(unchanged(alloc, Reply::Refused(status))),
+        Some(status) => return Ok(refused(alloc, status)),
         None => {}
     }
     let file = FileId {

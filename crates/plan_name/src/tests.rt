@@ -89,7 +89,7 @@ fn a_file_is_made_in_a_slot_and_at_the_end(rt: HostRuntime) -> Result<(), Fail> 
 }
 
 // A file is made at second 2000 in slot 2 of the root.
-fn plan_first(alloc: Global, store: &mut Memory, sets: &mut Sets) -> Result<PlannedNew, Fail> {
+fn plan_first(alloc: Global, store: &mut Memory, sets: &mut Sets) -> Result<Planned, Fail> {
     if store.sectors() < 64 {
         return Err("no volume".into());
     }
@@ -143,7 +143,7 @@ fn a_name_that_is_there_gets_its_size_or_stays(rt: HostRuntime) -> Result<(), Fa
         let wanted = Sattr { size, ..NOTHING };
         let planned = plan_standing_name(alloc, &mut store, 3, &wanted, &caller(), 2000);
         let planned = planned.map_err(|_| "not planned")?;
-        assert!(rt; planned.plan.puts().len() == puts && planned.freed.len() == freed);
+        assert!(rt; planned.plan.puts().len() == puts && planned.freed.blocks.len() == freed);
         assert!(rt; matches!(planned.reply, Reply::Handle { .. }));
     }
     let root = plan_standing_name(alloc, &mut store, 2, &NOTHING, &caller(), 2000);
@@ -272,7 +272,7 @@ fn plan_last(
     store: &mut Memory,
     sets: &mut Sets,
     inode: &Inode,
-) -> Result<PlannedNew, Fail> {
+) -> Result<Planned, Fail> {
     if store.sectors() < 64 {
         return Err("no volume".into());
     }

@@ -9,7 +9,7 @@ given_more : (xs : List ℕ) (x : ℕ) (blocks : List Bool) → given (xs ++ x �
 given_more [] x blocks = refl
 given_more (y ∷ ys) x blocks = given_more ys x (set blocks y true)
 
-length-given : (xs : List ℕ) (blocks : List Bool) → length (given xs blocks) ≡ length blocks
+pub length-given : (xs : List ℕ) (blocks : List Bool) → length (given xs blocks) ≡ length blocks
 length-given [] blocks = refl
 length-given (y ∷ ys) blocks = length-given ys (set blocks y true) ∙ length-set blocks y true
 

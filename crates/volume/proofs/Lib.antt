@@ -1,4 +1,5 @@
 pub mod Applying
+pub mod CarriedOut
 pub mod Committing
 pub mod Counting
 pub mod GivenBack

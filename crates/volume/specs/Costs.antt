@@ -11,16 +11,28 @@ use Rattle.stable.specs.States.{SomePuts}
 use Rattle.stable.specs.declared.store.Stable.{Ghosts}
 use Rattle.volume.specs.Mends.{mend_puts}
 
+-- how many sectors a CREATE puts at most: a directory's new sector, its block of addresses, and two inodes
+abbrev pub create_puts : ℕ
+create_puts = 4
+
+-- how many sectors a REMOVE puts at most: the slot's and those of two inodes
+abbrev pub remove_puts : ℕ
+remove_puts = 3
+
 -- how many sectors a call puts at most, whatever the files
 abbrev pub most_puts : Call → ℕ
 most_puts (call.Setattr file set) = set_puts set
 most_puts (call.Write file offset bytes) = plan_puts
+most_puts (call.Create dir name wanted) = create_puts
+most_puts (call.Remove dir name) = remove_puts
 most_puts c = 0
 
 -- how many it may put on these files
 abbrev pub call_cost : Files → Call → Cred → ℕ → ℕ
 call_cost files (call.Setattr file set) cred now = set_puts set
 call_cost files (call.Write file offset bytes) cred now = cost files file (record { cred = cred; offset = offset; bytes = bytes } ∷ []) now
+call_cost files (call.Create dir name wanted) cred now = create_puts
+call_cost files (call.Remove dir name) cred now = remove_puts
 call_cost files c cred now = 0
 
 -- At most so many puts were made besides those of a mend; and where contents are told and nothing was hurt, at most as many as it costs. `s` is what the store's type tells.

@@ -1,4 +1,5 @@
 pub mod Applied
+pub mod Carried
 pub mod Committed
 pub mod Costs
 pub mod Keeps

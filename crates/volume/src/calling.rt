@@ -7,10 +7,12 @@ ghost use Rattle.volume.specs.Applied.{Applies, hurts};
 ghost use Rattle.volume.specs.Costs.{CostsAtMost, call_cost, most_puts};
 ghost use Rattle.volume.specs.Rests.{RestsOn};
 
+use crate::create::create;
 use crate::getattr::getattr;
 use crate::lookup::lookup;
 use crate::outcome::Outcome;
 use crate::read::read;
+use crate::remove::remove;
 use crate::setattr::setattr;
 use crate::statfs::statfs;
 use crate::write::write;
@@ -76,6 +78,8 @@ pub fn make_call<S: Stable>(
             bytes,
         } => write(alloc, store, sets, *file, *offset, bytes.bytes(), cred, now),
         Call::Lookup { dir, name } => lookup(store, *dir, name, cred, now),
+        Call::Create { dir, name, set } => create(alloc, store, sets, *dir, name, set, cred, now),
+        Call::Remove { dir, name } => remove(alloc, store, sets, *dir, name, cred, now),
         Call::Statfs { file } => statfs(store, sets, *file, cred, now),
         _ => unreachable!(),
     }

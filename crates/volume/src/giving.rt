@@ -1,7 +1,8 @@
-// Blocks that a file doesn't need any more.
+// What a file doesn't need any more.
 ghost use Rattle.std.specs.Prelude.{◌≡◌, ◌<◌, ◌≤◌, ℕ, true, length};
 ghost use Rattle.index_sets.specs.Free.{is_free};
 ghost use Rattle.plan_file.specs.Set.{given};
+ghost use Rattle.plan_name.specs.Planned.{number_back};
 
 use index_sets::FreeSet;
 
@@ -15,5 +16,15 @@ pub fn give_back(blocks: &mut FreeSet, freed: &[u32], sectors: u32)
             continue;
         }
         blocks.give(*block);
+    }
+}
+
+/// Gives an i-number back to its set, if there is one.
+pub fn give_number(inodes: &mut FreeSet, freed: Option<u32>)
+    ensures { inodes.new ≡ number_back freed inodes.old }
+{
+    match freed {
+        Some(number) => inodes.give(number),
+        None => {}
     }
 }

@@ -3,6 +3,8 @@
 
 mod batch;
 mod calling;
+mod carrying;
+mod create;
 mod fault;
 mod getattr;
 mod giving;
@@ -12,6 +14,7 @@ mod mounted;
 mod opening;
 mod outcome;
 mod read;
+mod remove;
 mod setattr;
 mod starting;
 mod statfs;

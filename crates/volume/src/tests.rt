@@ -5,6 +5,7 @@ ghost use Rattle.files_model.specs.Step.{has_row};
 ghost use Rattle.volume.specs.Rests.{Rests};
 
 mod growth;
+mod names;
 
 use crate::{Outcome, Volume};
 use files_model::{Attr, Call, Cred, Data, FileId, Gids, Kind, Reply, Stat};

@@ -1,18 +1,16 @@
 use Rattle.std.proofs.Common.{◌≡◌, ℕ, ◌/◌, List, [], sym, ap, subst, ◌∙◌, refl, Option, IsSomeAnd}
 use Rattle.files_model.specs.declared.call.Call.TheVariants.{Create}
-use Rattle.files_model.specs.declared.reply.Reply.{Reply}
 use Rattle.files_model.specs.Names.{new_file}
-use Rattle.stable.specs.Puts.{Reserved}
 use Rattle.stable.specs.Store.{Image}
 use Rattle.v7_map.specs.Frame.{frame}
 use Rattle.v7_map.specs.Weak.{IsStrong}
 use Rattle.v7_map.proofs.Whole.{as_long}
-use Rattle.plan_name.specs.Created.{IsPlannedNew}
 use Rattle.plan_name.specs.Creating.{FitsAtEnd, IsPlannedMaking, made_answer}
 use Rattle.plan_name.specs.LayingOut.{LaysLonger, new_list}
 use Rattle.plan_name.specs.declared.laying_out.Laid.{Laid}
 use Rattle.plan_name.proofs.NewAtEnd.{told-by, may-grow, fits-end}
 use Rattle.plan_name.proofs.NewInPlace.{new-refused, new-number, new-planned}
+use Rattle.plan_name.proofs.PlannedCall.{taken-from}
 use Rattle.plan_name.proofs.new_at_end.plan_new_at_end.Goals as goal
 
 pub returns-in-Err-clause-planned : goal.returns-in-Err-clause-planned
@@ -21,9 +19,9 @@ returns-in-Err-clause-planned g c = λ tells d told is free.
     let image : Image = S.image c.args.store.now in
     let dir = c.args.directory in
     let told' = told-by image dir d c.args.inode.now c.args.sets.now.blocks c.args.sets.now.inodes told is c.attributes_of-attr.result c.attributes_of-attr.ensures in
-    subst (λ (l : List (ℕ × List ℕ)). IsPlannedNew image dir c.args.name.now c.args.wanted.now c.args.cred.now c.args.now c.args.sets.now l c.refused.result.reply) (sym (ap (λ (r : Reserved). r.puts) c.refused.ensures.plan))
-    (subst (λ (r : Reply). IsPlannedNew image dir c.args.name.now c.args.wanted.now c.args.cred.now c.args.now c.args.sets.now [] r) (sym c.refused.ensures.reply)
-    (new-refused image dir c.args.name.now c.args.wanted.now c.args.cred.now c.args.now d told.strong free c.in-Err.status c.args.sets.now (c.in-Err.ensures image dir.ino d c.args.name.now c.args.now told') told.sets))
+    let said = c.refused.ensures in
+    new-refused image dir c.args.name.now c.args.wanted.now c.args.cred.now c.args.now d told.strong free c.in-Err.status c.args.sets.now c.refused.result (c.in-Err.ensures image dir.ino d c.args.name.now c.args.now told') told.sets
+    said.plan said.reply said.blocks said.inode
 
 pub returns-then-not-can_be_number-clause-planned : goal.returns-then-not-can_be_number-clause-planned
 unfolding frame
@@ -62,4 +60,8 @@ returns-clause-planned g c = λ tells d told is free.
     × (c.in_ok-reply.reply ≡ made_answer z c.in-Ok.number (new_file c.args.wanted.now c.args.cred.now c.args.now))) same
     (c.in_ok-reply.ensures.planned tells (subst (λ (z : Image). IsStrong (frame z)) (sym same) told.strong) (Create dir c.args.name.now c.args.wanted.now, c.args.cred.now) d lays.0 (new_list c.in-Some.laid.new)) fits in
     new-planned image dir c.args.name.now c.args.wanted.now c.args.cred.now c.args.now d told.strong free c.in-Ok.number may record { blocks = c.take_new.new.blocks; inodes = c.take.new.self }
-    c.args.sets.now.blocks c.args.sets.now.inodes (new_list c.in-Some.laid.new) c.make_at_end.new.plan.puts c.in_ok-reply.reply told.sets c.take_new.ensures c.take.ensures made.0 made.1
+    c.args.sets.now.blocks c.args.sets.now.inodes (new_list c.in-Some.laid.new) record { plan = c.make_at_end.new.plan; reply = c.in_ok-reply.reply; freed = c.none_freed.result } told.sets c.take_new.ensures c.take.ensures made.0 made.1
+    c.none_freed.ensures.blocks c.none_freed.ensures.inode
+
+pub returns-clause-takes : goal.returns-clause-takes
+returns-clause-takes g c = taken-from c.args.sets.now (new_list c.in-Some.laid.new) c.in-Ok.number c.take_new.new.blocks c.take.new.self c.take_new.ensures c.take.ensures

@@ -1,16 +1,18 @@
-use Rattle.std.proofs.Common.{ap, subst}
+use Rattle.std.proofs.Common.{subst}
 use Rattle.files_model.specs.declared.call.Call.TheVariants.{Remove}
+use Rattle.files_model.specs.declared.reply.Reply.TheVariants as reply
 use Rattle.files_model.specs.declared.reply.Stat.TheVariants as stat
-use Rattle.stable.specs.Puts.{Reserved}
 use Rattle.stable.specs.Store.{Image}
 use Rattle.v7_map.specs.Found.{Finds}
+use Rattle.plan_name.proofs.PlannedCall.{unchanged-call}
 use Rattle.plan_name.proofs.RemovingJudged.{none_of}
-use Rattle.plan_name.proofs.RemovingPlanned.{refused-planned, removal-stale, same-freeing}
+use Rattle.plan_name.proofs.RemovingPlanned.{removal-stale}
 use Rattle.plan_name.proofs.removing.plan_remove.Goals as goal
 
 pub returns-in_default-clause-planned : goal.returns-in_default-clause-planned
-returns-in_default-clause-planned g c = λ tells strong.
+returns-in_default-clause-planned g c = λ tells strong left are.
     let image : Image = g.S.Stable.image c.args.store.now in
-    same-freeing image (Remove c.args.dir c.args.name.now, c.args.cred.now) c.args.now (ap (λ (p : Reserved). p.puts) c.refused.ensures.plan) c.refused.ensures.reply c.refused.ensures.blocks c.refused.ensures.inode
-    (refused-planned image (Remove c.args.dir c.args.name.now, c.args.cred.now) c.args.now stat.Stale strong
-    (removal-stale image c.args.dir c.args.name.now c.args.cred.now strong (subst (Finds image c.args.dir) (none_of c.in_ok-found.found c.in_default.not-Some) (c.in_ok-found.ensures.found tells strong)) c.args.now))
+    let said = c.refused.ensures in
+    unchanged-call image (Remove c.args.dir c.args.name.now, c.args.cred.now) c.args.now left c.refused.result (reply.Refused stat.Stale) strong are
+    (removal-stale image c.args.dir c.args.name.now c.args.cred.now strong (subst (Finds image c.args.dir) (none_of c.in_ok-found.found c.in_default.not-Some) (c.in_ok-found.ensures.found tells strong)) c.args.now)
+    said.plan said.reply said.blocks said.inode
