@@ -5,6 +5,7 @@ port=2049
 repository=$(cd "$(dirname "${BASH_SOURCE[0]}")/.." && pwd)
 program=${NFSD:-$repository/crates/nfsd/out/nfsd} # another build, where NFSD names one
 tool=${V7TOOL:-$repository/crates/v7tool/out/v7tool}
+control=${PRESTOCTL:-$repository/crates/prestoctl/out/prestoctl}
 folder=$(mktemp -d)
 disk=$folder/disk.img
 board=$folder/board.img
@@ -100,7 +101,7 @@ mkfs() {
     run_tool mkfs "$volume" 64 16 "$buffers" VOLA00 1000
 }
 
-# The file `f` in the root, number 3, of 1,024 bytes `a`. It is put there by hand, since no call that is served makes files.
+# The file `f` in the root, number 3, of 1,024 bytes `a`. It is put there by hand, so that its owner, its blocks and its times are these.
 add_file() {
     inode 2 $((8#040755)) 2 0 48 4
     inode 3 $((8#100644)) 1 100 1024 5 6
@@ -215,6 +216,39 @@ finish() {
     if [ $status -ne 72 ]; then
         fail "its status is $status, and not 72 for turns that are spent"
     fi
+}
+
+# control STATUS LINE WORD..: runs prestoctl with these words; it says that line and ends with that status.
+control() {
+    local wanted=$1 line=$2 said status
+    shift 2
+    said=$("$control" 127.0.0.1:$port "$@" 2>&1)
+    status=$?
+    say "prestoctl 127.0.0.1:$port $*: $said (status $status)"
+    [ "$said" = "$line" ] || fail "it did not say '$line'"
+    [ $status -eq "$wanted" ] || fail "its status is not $wanted"
+}
+
+# Waits until the program has ended as it was told, and shows what it said.
+finish_by_halt() {
+    local turn status
+    for ((turn = 0; turn < 50; turn++)); do
+        if ! kill -0 "$running" 2>/dev/null; then
+            break
+        fi
+        sleep 0.1
+    done
+    if kill -0 "$running" 2>/dev/null; then
+        fail "the program did not end when it was told to halt"
+    fi
+    wait "$running"
+    status=$?
+    running=
+    say "the program ended with status $status and said:"
+    while IFS= read -r line; do
+        say "    $line"
+    done <"$1"
+    [ $status -eq 0 ] || fail "its status is not 0"
 }
 
 # Kills the program, so that it can end nothing in order.

@@ -453,17 +453,24 @@ class Client:
         self.socket.settimeout(5)
         self.xid = 0
 
-    def call(self, cred, kind, arguments):
+    def send(self, cred, kind, arguments):
         self.xid += 1
         uid, gids = cred
         body = struct.pack(">5I", 0, 0, uid, gids[0], len(gids) - 1) + b"".join(struct.pack(">I", gid) for gid in gids[1:])
         head = struct.pack(">8I", self.xid, 0, 2, 100003, 2, NUMBERS[kind], 1, len(body)) + body + bytes(8)
-        before = int(time.time())
         self.socket.send(head + argument_bytes(kind, arguments))
+
+    def receive(self, kind):
         reply = self.socket.recv(9216)
         if reply[:24] != struct.pack(">6I", self.xid, 1, 0, 0, 0, 0):
             raise SystemExit(f"{kind}: not an accepted reply: {reply[:24].hex()}")
-        return reply[24:], before, int(time.time())
+        return reply[24:]
+
+    def call(self, cred, kind, arguments):
+        before = int(time.time())
+        self.send(cred, kind, arguments)
+        reply = self.receive(kind)
+        return reply, before, int(time.time())
 
 
 def expected(model, kind, now, cred, arguments):
@@ -573,15 +580,19 @@ class Chooser:
         return kind, cred, self.arguments(model, kind)
 
 
-def compare(client, model, kinds):
-    """The whole volume, by the calls that only look."""
+def compare(client, model, kinds, names=()):
+    """The whole volume, by the calls that only look, and these names in each directory."""
     root = (0, (0,))
     for ino, node in model.nodes.items():
         file = (ino, model.generation(ino))
-        model = check(client, model, "getattr", root, [file])
+        check(client, model, "getattr", root, [file])
         if node.kind == REGULAR and "read" in kinds:
             for offset in range(0, node.size + 1, 8192):
                 check(client, model, "read", root, [file, offset, 8192])
+        if node.kind == DIRECTORY and "lookup" in kinds:
+            standing = [slot[1] for slot in node.slots if slot is not None]
+            for name in standing + NAMES + list(names):
+                check(client, model, "lookup", root, [file, name])
         if node.kind == DIRECTORY and "readdir" in kinds:
             for cookie in range(0, len(node.slots) + 1, 40):
                 check(client, model, "readdir", root, [file, cookie, 8192])
@@ -589,6 +600,11 @@ def compare(client, model, kinds):
             check(client, model, "readlink", root, [file])
     if "statfs" in kinds:
         check(client, model, "statfs", root, [(2, model.generation(2))])
+
+
+def summary(model):
+    kinds = [node.kind for node in model.nodes.values()]
+    return f"files {kinds.count(REGULAR)} directories {kinds.count(DIRECTORY)} links {kinds.count(LINK)} free {model.free()}"
 
 
 def main(port, seed, calls, kept, inodes, blocks, kinds):
@@ -600,8 +616,7 @@ def main(port, seed, calls, kept, inodes, blocks, kinds):
         kind, cred, arguments = chooser.next(model)
         model = check(client, model, kind, cred, arguments)
     compare(client, model, kinds)
-    kinds_of = [node.kind for node in model.nodes.values()]
-    print(f"files {kinds_of.count(REGULAR)} directories {kinds_of.count(DIRECTORY)} links {kinds_of.count(LINK)} free {model.free()}")
+    print(summary(model))
     with open(kept, "wb") as file:
         pickle.dump(model, file)
 

@@ -9,6 +9,3 @@ mod words;
 
 pub use running::serve;
 pub use telling::USAGE;
-
-#[cfg(test)]
-mod tests;

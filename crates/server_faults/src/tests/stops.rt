@@ -1,8 +1,8 @@
 //! How a volume is stopped, and what is left where that is cut.
-use crate::tests::boards::with_board;
-use crate::tests::outside::{has_said, host_at, rig_of, run, served_by};
-use crate::tests::volumes::{is_stopped, is_volume, patched, rig, rig_with, with_fault};
 use rig_mem::MemRig;
+use server_runs::boards::with_board;
+use server_runs::outside::{has_said, host_at, rig_of, run, served_by};
+use server_runs::volumes::{is_stopped, is_volume, patched, rig, rig_with, with_fault};
 use std::alloc::Global;
 use std::test::Fail;
 use volume_mem::{FRESH, test_volume};

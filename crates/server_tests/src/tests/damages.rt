@@ -1,6 +1,6 @@
 //! Volumes that can't be mended, and one that can.
-use crate::tests::outside::{has_said, rig_of, served_by};
-use crate::tests::volumes::{Patch, has_disk, is_stopped, is_volume, patched, rig_with};
+use server_runs::outside::{has_said, rig_of, served_by};
+use server_runs::volumes::{Patch, has_disk, is_stopped, is_volume, patched, rig_with};
 use std::alloc::Global;
 use std::test::Fail;
 use volume_mem::{FRESH, test_volume};

@@ -1,7 +1,7 @@
 //! The refusals of a WRITE.
-use crate::tests::outside::{has_said, has_sent, served};
-use crate::tests::volumes::{is_volume, rig};
-use crate::tests::worked::{status_reply, write_with};
+use server_runs::outside::{has_said, has_sent, served};
+use server_runs::volumes::{is_volume, rig};
+use server_runs::worked::{status_reply, write_with};
 use std::test::Fail;
 use volume_mem::{FRESH, Shape};
 

@@ -1,8 +1,8 @@
 //! Each device call of the worked WRITE fails, or is cut; then the rig crashes and is served again.
-use crate::tests::outside::{has_said, has_sent, opening_calls, rig_of, served};
-use crate::tests::volumes::{is_stopped, is_volume, rig};
-use crate::tests::worked::{status_reply, worked_reply, worked_write};
 use rig_mem::MemRig;
+use server_runs::outside::{has_said, has_sent, opening_calls, rig_of, served};
+use server_runs::volumes::{is_stopped, is_volume, rig};
+use server_runs::worked::{status_reply, worked_reply, worked_write};
 use std::alloc::Global;
 use std::test::Fail;
 use volume_mem::{FRESH, Shape, WRITTEN};

@@ -92,9 +92,9 @@ fn falling(first: u32, count: usize) -> [u32; 50] {
     blocks
 }
 
-/// Whether the volume was stopped cleanly at that second, with the free chain of the test volume, of blocks 7 to 63: eight in the super-block,
-/// the first of which holds the others.
-pub fn is_stopped(rig: &MemRig, second: u32) -> bool {
+/// Whether the volume was stopped cleanly at that second, with a free chain of the blocks from this one, 5 to 14, to 63, of which those from 15 on
+/// stand in the record in block 14, and with so many free i-numbers.
+pub fn has_chain(rig: &MemRig, second: u32, lowest: u32, inodes: u16) -> bool {
     let Some(super_block) = super_of(rig) else {
         return false;
     };
@@ -104,13 +104,19 @@ pub fn is_stopped(rig: &MemRig, second: u32) -> bool {
     let mut rest = falling(64, 50);
     rest[0] = 0;
     let chain = Chain::read(sector);
+    let listed = 15u32.saturating_sub(lowest);
     super_block.s_fmod == 0
         && super_block.s_time == second
         && super_block.s_fpack == *b"VOLA00"
-        && super_block.s_tfree == 57
-        && super_block.s_tinode == 13
-        && super_block.s_nfree == 8
-        && super_block.s_free == falling(14, 8)
+        && super_block.s_tfree == 64u32.saturating_sub(lowest)
+        && super_block.s_tinode == inodes
+        && super_block.s_nfree as u32 == listed
+        && super_block.s_free == falling(14, listed as usize)
         && chain.s_nfree == 50
         && chain.s_free == rest
+}
+
+/// Whether the volume was stopped cleanly at that second, with the free chain of the test volume, of blocks 7 to 63.
+pub fn is_stopped(rig: &MemRig, second: u32) -> bool {
+    has_chain(rig, second, 7, 13)
 }

@@ -1,9 +1,9 @@
 //! Statuses and lines.
-use crate::USAGE;
-use crate::tests::outside::{Host, datagram, has_said, has_sent, host, run, served};
-use crate::tests::volumes::{is_volume, rig};
-use crate::tests::worked::{worked_reply, worked_write};
+use nfs_server::USAGE;
 use rig_mem::{MemEvent, MemRig};
+use server_runs::outside::{Host, datagram, has_said, has_sent, host, run, served};
+use server_runs::volumes::{is_volume, rig};
+use server_runs::worked::{worked_reply, worked_write};
 use std::alloc::Global;
 use std::test::Fail;
 use volume_mem::{FRESH, WRITTEN};

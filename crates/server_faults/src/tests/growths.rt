@@ -1,12 +1,12 @@
 //! Each device call of a call that changes the size of its file fails, or is cut; then the rig crashes and is served again.
 ghost use Rattle.v7_layout.specs.Written.{AddressesFit};
 
-use crate::tests::outside::{datagram, has_sent, opening_calls, rig_of, served, served_all};
-use crate::tests::volumes::{has_files, rig_with, super_of, with_fault};
-use crate::tests::worked::{
+use rig_mem::MemRig;
+use server_runs::outside::{datagram, has_sent, opening_calls, rig_of, served, served_all};
+use server_runs::volumes::{has_files, rig_with, super_of, with_fault};
+use server_runs::worked::{
     ATTRIBUTES, CALL, CREDENTIAL, HANDLE, REPLY, add_words, getattr, status_reply, write_with,
 };
-use rig_mem::MemRig;
 use std::alloc::Global;
 use std::test::Fail;
 use v7_layout::Inode;

@@ -1,35 +1,14 @@
 //! Single turns, and what each says.
-ghost use Rattle.std.specs.Prelude.{length};
-ghost use Rattle.std.specs.List.{AllByRecursion};
-ghost use Rattle.nfs_worker.specs.Volumes.{AreOpen};
-ghost use Rattle.volume.specs.Rests.{Rests};
 
-use crate::tests::outside::{cells, datagram, last_rig, post};
-use crate::tests::volumes::{is_volume, rig};
-use crate::tests::worked::{CLIENT, worked_write, write_with};
-use nfs_worker::taking::turn;
-use nfs_worker::{Cells, DropCause, ServerPass, Turn};
-use presto_unit::Presto;
+use nfs_worker::{DropCause, ServerPass, Turn};
 use rig::{Address, Event, Failed, Link, Packet, Post};
-use rig_mem::{MemClock, MemEvent, MemRig, StillPauser};
-use stable::Stable;
+use rig_mem::{MemClock, MemEvent, StillPauser};
+use server_runs::outside::{cells, datagram, last_rig, post};
+use server_runs::turns::is_next;
+use server_runs::volumes::{is_volume, rig};
+use server_runs::worked::{CLIENT, worked_write, write_with};
 use std::test::Fail;
 use volume_mem::{FRESH, WRITTEN};
-
-/// Takes a turn. Whether it is this one.
-pub fn is_next<L: Link>(
-    cells: &mut Cells<Presto<MemRig>>,
-    post: &mut Post<L, MemClock, StillPauser>,
-    pass: &mut ServerPass,
-    wanted: Turn,
-) -> bool
-    requires rest { AllByRecursion (Rests ⟦<Presto<MemRig> as Stable>⟧) cells.old.volumes.items }
-    requires desk { AreOpen (length cells.old.volumes.items) cells.old.desk }
-    ensures rest { AllByRecursion (Rests ⟦<Presto<MemRig> as Stable>⟧) cells.new.volumes.items }
-    ensures desk { AreOpen (length cells.new.volumes.items) cells.new.desk }
-{
-    pass.numbers.received < 6 && turn(cells, post, pass) == wanted
-}
 
 #[test]
 fn each_event_has_its_turn(rt: HostRuntime) -> Result<(), Fail> {

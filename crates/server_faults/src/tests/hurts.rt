@@ -1,8 +1,8 @@
 //! A WRITE whose inode isn't written: the volume is hurt until the next call mends it.
-use crate::tests::outside::{Host, datagram, has_sent_all, opening_calls, rig_of, served_all};
-use crate::tests::volumes::{is_stopped, is_volume, rig, super_of};
-use crate::tests::worked::{ATTRIBUTES, REPLY, add_words, getattr, status_reply, worked_write};
 use rig_mem::MemRig;
+use server_runs::outside::{Host, datagram, has_sent_all, opening_calls, rig_of, served_all};
+use server_runs::volumes::{is_stopped, is_volume, rig, super_of};
+use server_runs::worked::{ATTRIBUTES, REPLY, add_words, getattr, status_reply, worked_write};
 use std::alloc::Global;
 use std::test::Fail;
 use volume_mem::{FRESH, Shape, WRITTEN};

@@ -1,40 +1,21 @@
 //! Runs over a disk with a board of 64 buffers in front of it.
 ghost use Rattle.v7_layout.specs.Written.{AddressesFit};
 
-use crate::tests::outside::{
+use rig::Rig;
+use rig_mem::{MemEvent, MemRig};
+use server_runs::boards::{small, with_board};
+use server_runs::outside::{
     datagram, has_said, has_sent, has_sent_all, host_at, opening_calls, rig_of, run, served_by,
 };
-use crate::tests::volumes::{has_disk, has_files, is_volume};
-use crate::tests::worked::{
+use server_runs::volumes::{has_disk, has_files, is_volume};
+use server_runs::worked::{
     CALL, CREDENTIAL, HANDLE, REPLY, WRITE, add_words, getattr, status_reply, worked_reply,
     worked_write,
 };
-use nvram_map::format;
-use rig::Rig;
-use rig_mem::{MemEvent, MemRig};
 use std::alloc::Global;
 use std::test::Fail;
 use v7_layout::Inode;
 use volume_mem::{FRESH, WRITTEN, file, sectors_of, test_volume};
-
-/// A rig with this disk and a board of so many buffers, 64 at the most, that is formatted for `VOLA00`. Its device calls are counted from here on.
-pub fn with_board(alloc: Global, disk: &[[u8; 512]], buffers: u32) -> Result<MemRig, Fail> {
-    let mut rig = MemRig::new(alloc, 64, buffers.clamp(2, 64))?;
-    for (sector, bytes) in (0..64).zip(disk.iter()) {
-        if sector < rig.sectors() && rig.write(sector, bytes).is_err() {
-            return Err("the disk isn't made".into());
-        }
-    }
-    if rig.buffers() == 0 || format(&mut rig, *b"VOLA00").is_err() {
-        return Err("the board isn't formatted".into());
-    }
-    Ok(rig.crash(true, 0))
-}
-
-/// The test volume with such a board.
-pub fn small(alloc: Global) -> Result<MemRig, Fail> {
-    with_board(alloc, &test_volume(alloc, FRESH)?, 64)
-}
 
 // ---- a long WRITE
 
@@ -106,7 +87,7 @@ fn cut_at(
     alloc: Global,
     store: u64,
     newer: bool,
-) -> Result<(u8, crate::tests::outside::Host), Fail> {
+) -> Result<(u8, server_runs::outside::Host), Fail> {
     let opening = opening_calls(alloc, with_board(alloc, &long_disk(alloc, 0)?, 64)?)?;
     let mut rig = with_board(alloc, &long_disk(alloc, 0)?, 64)?;
     rig.stop_at(opening.saturating_add(READS).saturating_add(store), newer);
@@ -313,7 +294,7 @@ const AFTER_FLUSHES: u64 = 20;
 
 // The WRITE at second 2000, three turns without a datagram at the next second, at which the battery is low, and a GETATTR
 // at which the rig is cut. So the stopping can write no chain, and the Down at the end flush nothing.
-fn cut_with_a_low_battery(alloc: Global) -> Result<(u8, crate::tests::outside::Host), Fail> {
+fn cut_with_a_low_battery(alloc: Global) -> Result<(u8, server_runs::outside::Host), Fail> {
     let opening = opening_calls(alloc, small(alloc)?)?;
     let mut rig = small(alloc)?;
     rig.low_from(2);

@@ -1,10 +1,10 @@
 //! Calls on file 3, through datagrams.
 ghost use Rattle.v7_layout.specs.Written.{AddressesFit};
 
-use crate::tests::outside::{Host, datagram, has_sent_all, rig_of, served_all};
-use crate::tests::volumes::{has_files, rig, rig_with};
-use crate::tests::worked::{ATTRIBUTES, CALL, CREDENTIAL, HANDLE, REPLY, WRITE, add_words};
 use rig_mem::MemRig;
+use server_runs::outside::{Host, datagram, has_sent_all, rig_of, served_all};
+use server_runs::volumes::{has_files, rig, rig_with};
+use server_runs::worked::{ATTRIBUTES, CALL, CREDENTIAL, HANDLE, REPLY, WRITE, add_words};
 use std::alloc::Global;
 use std::test::Fail;
 use v7_layout::Inode;

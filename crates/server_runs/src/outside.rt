@@ -4,8 +4,8 @@ ghost use Rattle.std.specs.List.{AllByRecursion};
 ghost use Rattle.nfs_worker.specs.Volumes.{AreOpen};
 ghost use Rattle.volume.specs.Rests.{Rests};
 
-use crate::serve;
-use crate::tests::worked::CLIENT;
+use crate::worked::CLIENT;
+use nfs_server::serve;
 use nfs_worker::{Cells, open_cells};
 use presto_recover::open;
 use presto_unit::Presto;

@@ -1,13 +1,13 @@
 //! Datagrams of all programs, as docs/FORMATS.md has them, and what is sent of each.
-use crate::tests::boards::small;
-use crate::tests::outside::{
-    Host, cells, datagram, has_said, has_sent_all, host_at, post, run, served_by,
-};
-use crate::tests::turns::is_next;
-use crate::tests::volumes::rig;
-use crate::tests::worked::{add_words, worked_reply, worked_write};
 use nfs_worker::{ServerPass, Turn};
 use rig_mem::{MemEvent, MemRig};
+use server_runs::boards::small;
+use server_runs::outside::{
+    Host, cells, datagram, has_said, has_sent_all, host_at, post, run, served_by,
+};
+use server_runs::turns::is_next;
+use server_runs::volumes::rig;
+use server_runs::worked::{add_words, worked_reply, worked_write};
 use std::alloc::Global;
 use std::test::Fail;
 use volume_mem::FRESH;

@@ -2,7 +2,7 @@ use Rattle.std.proofs.Common.{ℕ, length, sym, ap, subst}
 use Rattle.std.specs.List.{AllByRecursion}
 use Rattle.nfs_worker.specs.Volumes.{AreOpen}
 use Rattle.nfs_worker.proofs.Desks.{new_open}
-use Rattle.nfs_server.proofs.tests.outside.cells_on.Goals as goal
+use Rattle.server_runs.proofs.outside.cells_on.Goals as goal
 
 pub returns-clause-rest : goal.returns-clause-rest
 returns-clause-rest c = subst (AllByRecursion _) (sym (ap (λ v. v.items) c.in-Ok.ensures.volumes)) c.requires.rest

@@ -1,11 +1,11 @@
 //! Turns over two volumes.
 
-use crate::tests::outside::{are_sent, cells_of_two, datagram, last_rig, post};
-use crate::tests::turns::is_next;
-use crate::tests::volumes::{is_volume, rig};
 use crate::tests::wire::{Row, bytes_of};
-use crate::tests::worked::write_with;
 use nfs_worker::{ServerPass, Turn};
+use server_runs::outside::{are_sent, cells_of_two, datagram, last_rig, post};
+use server_runs::turns::is_next;
+use server_runs::volumes::{is_volume, rig};
+use server_runs::worked::write_with;
 use std::test::Fail;
 use volume_mem::{FRESH, WRITTEN};
 

@@ -1,0 +1,5 @@
+//! Tests of the server's calls on names.
+#![tactic(auto)]
+
+#[cfg(test)]
+mod tests;

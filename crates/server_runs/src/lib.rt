@@ -1,0 +1,8 @@
+//! Runs of the server over memory, for the tests of several crates: what a host gives, volumes and boards, and datagrams.
+#![tactic(auto)]
+
+pub mod boards;
+pub mod outside;
+pub mod turns;
+pub mod volumes;
+pub mod worked;
