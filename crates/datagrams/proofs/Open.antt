@@ -17,7 +17,7 @@ use Rattle.nfs2_wire.specs.declared.on_volume.VolumeCall.{VolumeCall}
 use Rattle.nfs2_wire.specs.declared.on_volume.Unread.{Unread}
 use Rattle.nfs2_wire.specs.declared.on_volume.Unread.TheVariants.{Stale, Garbage}
 use Rattle.nfs2_wire.specs.AllCalls.{readable, named_by, opened, on, read_of, nfs_call}
-use Rattle.nfs2_wire.specs.AllCalls.{getattr_call, setattr_call, lookup_call, readlink_call, read_call, write_call, create_call, remove_call, rename_call, link_call, symlink_call, mkdir_call, rmdir_call, readdir_call, statfs_call}
+use Rattle.nfs2_wire.specs.AllCalls.{file_call, name_call, new_call, setattr_call, read_call, write_call, rename_call, link_call, symlink_call, readdir_call}
 use Rattle.nfs2_wire.specs.Arguments.{getattr_args, read_args, write_args}
 use Rattle.nfs2_wire.specs.Shapes.{set_args, name_args, new_args, rename_args, link_args, symlink_args, part_args}
 use Rattle.nfs2_wire.specs.Handles.{handle, of_open, second}
@@ -82,7 +82,7 @@ either volumes true r s p q = p
 either volumes false r s p q = q
 
 open_read : (procedure : ℕ) (bytes : List ℕ) (volumes : ℕ) → IsOpenRead volumes (nfs_call procedure bytes volumes)
-unfolding nfs_call getattr_call setattr_call lookup_call readlink_call read_call write_call create_call remove_call rename_call link_call symlink_call mkdir_call rmdir_call readdir_call statfs_call
+unfolding nfs_call file_call name_call new_call setattr_call read_call write_call rename_call link_call symlink_call readdir_call
 open_read procedure bytes volumes =
     either volumes (eqb procedure 1) _ _ (one volumes (getattr_args bytes) (λ a. a) (λ a h file. call.Getattr file))
     (either volumes (eqb procedure 2) _ _ (one volumes (set_args bytes) (λ a. a.0) (λ a h file. call.Setattr file a.1))

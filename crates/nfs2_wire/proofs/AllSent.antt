@@ -11,7 +11,7 @@ use Rattle.nfs2_wire.specs.declared.all_calls.NfsCall.TheVariants as read
 use Rattle.nfs2_wire.specs.Handles.{handle, handle_of, second}
 use Rattle.nfs2_wire.specs.Arguments.{getattr_args, read_args, write_args}
 use Rattle.nfs2_wire.specs.Shapes.{set_of, sattr, dirop, set_args, name_args, new_args, rename_args, link_args, symlink_args, part_args}
-use Rattle.nfs2_wire.specs.AllCalls.{opened, getattr_call, setattr_call, lookup_call, readlink_call, read_call, write_call, create_call, remove_call, rename_call, link_call, symlink_call, mkdir_call, rmdir_call, readdir_call, statfs_call, nfs_call}
+use Rattle.nfs2_wire.specs.AllCalls.{opened, file_call, name_call, new_call, setattr_call, read_call, write_call, rename_call, link_call, symlink_call, readdir_call, nfs_call}
 use Rattle.nfs2_wire.specs.AllSending.{read_bytes, write_bytes, FileFits, word_of, sattr_bytes, dirop_bytes, arguments_of, procedure_of, WordFits, SattrFits, CanBeCalled}
 use Rattle.nfs2_wire.proofs.Handles.{handle_again}
 use Rattle.nfs2_wire.proofs.Lengths.{length-handle_of}
@@ -157,7 +157,7 @@ second_again volume file fits file_fits =
 -- ---- the calls
 
 pub arguments_again : (volumes volume : ℕ) (asked : Call) (rest : List ℕ) → CanBeCalled volumes volume asked → nfs_call (procedure_of asked) (arguments_of volume asked rest) volumes ≡ read.Call volume asked
-unfolding nfs_call getattr_call setattr_call lookup_call readlink_call read_call write_call create_call remove_call rename_call link_call symlink_call mkdir_call rmdir_call readdir_call statfs_call
+unfolding nfs_call file_call name_call new_call setattr_call read_call write_call rename_call link_call symlink_call readdir_call
 arguments_again volumes volume (call.Getattr file) rest can = rw (file_again volume file rest, opened_again volumes volume file can.open_volume can.volume_fits can.fits) refl
 arguments_again volumes volume (call.Setattr file set) rest can = rw (set_args_again volume file set rest can.fits.1, opened_again volumes volume file can.open_volume can.volume_fits can.fits.0) refl
 arguments_again volumes volume (call.Lookup dir name) rest can = rw (name_args_again volume dir name rest can.fits.short, opened_again volumes volume dir can.open_volume can.volume_fits can.fits.file) refl

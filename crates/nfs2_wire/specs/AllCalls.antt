@@ -1,11 +1,18 @@
 -- What the arguments of a call of any procedure mean (RFC 1094 2.2). Bytes after the last argument are passed over.
 use Rattle.std.specs.Prelude.{ℕ, List, Option, Some, None, Result, Ok, Err, ◌==◌, if◌then◌else◌}
 use Rattle.files_model.specs.declared.attributes.FileId.{FileId}
+use Rattle.files_model.specs.declared.attributes.Sattr.{Sattr}
 use Rattle.files_model.specs.declared.call.Call.{Call}
 use Rattle.files_model.specs.declared.call.Call.TheVariants as call
 use Rattle.xdr_rpc.specs.Tests.{◌>>=◌}
 use Rattle.nfs2_wire.specs.declared.all_calls.NfsCall.{NfsCall}
 use Rattle.nfs2_wire.specs.declared.all_calls.NfsCall.TheVariants as read
+use Rattle.nfs2_wire.specs.declared.on_volume.OfFile.{OfFile}
+use Rattle.nfs2_wire.specs.declared.on_volume.OfFile.TheVariants as file
+use Rattle.nfs2_wire.specs.declared.on_volume.OfName.{OfName}
+use Rattle.nfs2_wire.specs.declared.on_volume.OfName.TheVariants as name
+use Rattle.nfs2_wire.specs.declared.on_volume.OfNew.{OfNew}
+use Rattle.nfs2_wire.specs.declared.on_volume.OfNew.TheVariants as new
 use Rattle.nfs2_wire.specs.declared.on_volume.VolumeCall.{VolumeCall}
 use Rattle.nfs2_wire.specs.declared.on_volume.Unread.{Unread}
 use Rattle.nfs2_wire.specs.declared.on_volume.Unread.TheVariants.{Stale, Garbage}
@@ -32,29 +39,46 @@ on h asked = Ok (record { volume = h.volume; call = asked h.file })
 
 -- ---- one call for each procedure (RFC 1094 2.2.2 to 2.2.18)
 
-unfoldable pub getattr_call : ℕ → List ℕ → Result VolumeCall Unread
-getattr_call volumes bytes = do
+-- GETATTR, READLINK and STATFS: of a file alone
+abbrev pub of_file : OfFile → FileId → Call
+of_file file.Getattr = λ f. call.Getattr f
+of_file file.Readlink = λ f. call.Readlink f
+of_file file.Statfs = λ f. call.Statfs f
+
+unfoldable pub file_call : OfFile → ℕ → List ℕ → Result VolumeCall Unread
+file_call asked volumes bytes = do
   a ← readable (getattr_args bytes)
   h ← opened volumes a
-  on h (λ file. call.Getattr file)
+  on h (λ f. of_file asked f)
+
+-- LOOKUP, REMOVE and RMDIR: of a name in a directory
+abbrev pub of_name : OfName → FileId → List ℕ → Call
+of_name name.Lookup = λ dir n. call.Lookup dir n
+of_name name.Remove = λ dir n. call.Remove dir n
+of_name name.Rmdir = λ dir n. call.Rmdir dir n
+
+unfoldable pub name_call : OfName → ℕ → List ℕ → Result VolumeCall Unread
+name_call asked volumes bytes = do
+  a ← readable (name_args bytes)
+  h ← opened volumes a.0
+  on h (λ dir. of_name asked dir a.1)
+
+-- CREATE and MKDIR: a name and attributes
+abbrev pub of_new : OfNew → FileId → List ℕ → Sattr → Call
+of_new new.Create = λ dir n set. call.Create dir n set
+of_new new.Mkdir = λ dir n set. call.Mkdir dir n set
+
+unfoldable pub new_call : OfNew → ℕ → List ℕ → Result VolumeCall Unread
+new_call asked volumes bytes = do
+  a ← readable (new_args bytes)
+  h ← opened volumes a.0
+  on h (λ dir. of_new asked dir a.1 a.2)
 
 unfoldable pub setattr_call : ℕ → List ℕ → Result VolumeCall Unread
 setattr_call volumes bytes = do
   a ← readable (set_args bytes)
   h ← opened volumes a.0
   on h (λ file. call.Setattr file a.1)
-
-unfoldable pub lookup_call : ℕ → List ℕ → Result VolumeCall Unread
-lookup_call volumes bytes = do
-  a ← readable (name_args bytes)
-  h ← opened volumes a.0
-  on h (λ dir. call.Lookup dir a.1)
-
-unfoldable pub readlink_call : ℕ → List ℕ → Result VolumeCall Unread
-readlink_call volumes bytes = do
-  a ← readable (getattr_args bytes)
-  h ← opened volumes a
-  on h (λ file. call.Readlink file)
 
 unfoldable pub read_call : ℕ → List ℕ → Result VolumeCall Unread
 read_call volumes bytes = do
@@ -67,18 +91,6 @@ write_call volumes bytes = do
   a ← readable (write_args bytes)
   h ← opened volumes a.0
   on h (λ file. call.Write file a.1 a.2)
-
-unfoldable pub create_call : ℕ → List ℕ → Result VolumeCall Unread
-create_call volumes bytes = do
-  a ← readable (new_args bytes)
-  h ← opened volumes a.0
-  on h (λ dir. call.Create dir a.1 a.2)
-
-unfoldable pub remove_call : ℕ → List ℕ → Result VolumeCall Unread
-remove_call volumes bytes = do
-  a ← readable (name_args bytes)
-  h ← opened volumes a.0
-  on h (λ dir. call.Remove dir a.1)
 
 unfoldable pub rename_call : ℕ → List ℕ → Result VolumeCall Unread
 rename_call volumes bytes = do
@@ -98,29 +110,11 @@ symlink_call volumes bytes = do
   h ← opened volumes a.0
   on h (λ dir. call.Symlink dir a.1 a.2 a.3)
 
-unfoldable pub mkdir_call : ℕ → List ℕ → Result VolumeCall Unread
-mkdir_call volumes bytes = do
-  a ← readable (new_args bytes)
-  h ← opened volumes a.0
-  on h (λ dir. call.Mkdir dir a.1 a.2)
-
-unfoldable pub rmdir_call : ℕ → List ℕ → Result VolumeCall Unread
-rmdir_call volumes bytes = do
-  a ← readable (name_args bytes)
-  h ← opened volumes a.0
-  on h (λ dir. call.Rmdir dir a.1)
-
 unfoldable pub readdir_call : ℕ → List ℕ → Result VolumeCall Unread
 readdir_call volumes bytes = do
   a ← readable (part_args bytes)
   h ← opened volumes a.0
   on h (λ dir. call.Readdir dir a.1 a.2)
-
-unfoldable pub statfs_call : ℕ → List ℕ → Result VolumeCall Unread
-statfs_call volumes bytes = do
-  a ← readable (getattr_args bytes)
-  h ← opened volumes a
-  on h (λ file. call.Statfs file)
 
 -- ---- the table
 
@@ -132,21 +126,21 @@ read_of (Err Garbage) = read.Garbage
 -- by number; 3 and 7, and what is no procedure with arguments, are answered without a result
 unfoldable pub nfs_call : ℕ → List ℕ → ℕ → NfsCall
 nfs_call procedure args volumes =
-    if procedure == 1 then read_of (getattr_call volumes args)
+    if procedure == 1 then read_of (file_call file.Getattr volumes args)
     else if procedure == 2 then read_of (setattr_call volumes args)
-    else if procedure == 4 then read_of (lookup_call volumes args)
-    else if procedure == 5 then read_of (readlink_call volumes args)
+    else if procedure == 4 then read_of (name_call name.Lookup volumes args)
+    else if procedure == 5 then read_of (file_call file.Readlink volumes args)
     else if procedure == 6 then read_of (read_call volumes args)
     else if procedure == 8 then read_of (write_call volumes args)
-    else if procedure == 9 then read_of (create_call volumes args)
-    else if procedure == 10 then read_of (remove_call volumes args)
+    else if procedure == 9 then read_of (new_call new.Create volumes args)
+    else if procedure == 10 then read_of (name_call name.Remove volumes args)
     else if procedure == 11 then read_of (rename_call volumes args)
     else if procedure == 12 then read_of (link_call volumes args)
     else if procedure == 13 then read_of (symlink_call volumes args)
-    else if procedure == 14 then read_of (mkdir_call volumes args)
-    else if procedure == 15 then read_of (rmdir_call volumes args)
+    else if procedure == 14 then read_of (new_call new.Mkdir volumes args)
+    else if procedure == 15 then read_of (name_call name.Rmdir volumes args)
     else if procedure == 16 then read_of (readdir_call volumes args)
-    else if procedure == 17 then read_of (statfs_call volumes args)
+    else if procedure == 17 then read_of (file_call file.Statfs volumes args)
     else read.Void
 
 -- a WRITE or a SYMLINK, whose bytes take memory

@@ -7,9 +7,8 @@ ghost use Rattle.nfs2_wire.specs.AllCalls.{write_call, symlink_call, read_of, nf
 
 use crate::arguments::write_args_of;
 use crate::on_volume::{
-    Unread, VolumeCall, opened_by, read_create, read_getattr, read_link, read_lookup, read_mkdir,
-    read_read, read_readdir, read_readlink, read_remove, read_rename, read_rmdir, read_setattr,
-    read_statfs,
+    OfFile, OfName, OfNew, Unread, VolumeCall, opened_by, read_link, read_of_file, read_of_name,
+    read_of_new, read_read, read_readdir, read_rename, read_setattr,
 };
 use crate::shapes::symlink_args_of;
 use files_model::{Call, Data, Name, NoMemory, Text};
@@ -95,21 +94,21 @@ fn read_by_number(
     ensures err { OnErr result (TakesMemory (nfs_call procedure args.now volumes)) }
 {
     match procedure {
-        1 => Ok(read_as(read_getattr(args, volumes))),
+        1 => Ok(read_as(read_of_file(OfFile::Getattr, args, volumes))),
         2 => Ok(read_as(read_setattr(args, volumes))),
-        4 => Ok(read_as(read_lookup(args, volumes))),
-        5 => Ok(read_as(read_readlink(args, volumes))),
+        4 => Ok(read_as(read_of_name(OfName::Lookup, args, volumes))),
+        5 => Ok(read_as(read_of_file(OfFile::Readlink, args, volumes))),
         6 => Ok(read_as(read_read(args, volumes))),
         8 => read_write(alloc, args, volumes),
-        9 => Ok(read_as(read_create(args, volumes))),
-        10 => Ok(read_as(read_remove(args, volumes))),
+        9 => Ok(read_as(read_of_new(OfNew::Create, args, volumes))),
+        10 => Ok(read_as(read_of_name(OfName::Remove, args, volumes))),
         11 => Ok(read_as(read_rename(args, volumes))),
         12 => Ok(read_as(read_link(args, volumes))),
         13 => read_symlink(alloc, args, volumes),
-        14 => Ok(read_as(read_mkdir(args, volumes))),
-        15 => Ok(read_as(read_rmdir(args, volumes))),
+        14 => Ok(read_as(read_of_new(OfNew::Mkdir, args, volumes))),
+        15 => Ok(read_as(read_of_name(OfName::Rmdir, args, volumes))),
         16 => Ok(read_as(read_readdir(args, volumes))),
-        17 => Ok(read_as(read_statfs(args, volumes))),
+        17 => Ok(read_as(read_of_file(OfFile::Statfs, args, volumes))),
         _ => Ok(NfsCall::Void),
     }
 }

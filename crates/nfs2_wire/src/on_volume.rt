@@ -1,13 +1,13 @@
 //! Calls on a volume, without those that take memory.
 ghost use Rattle.std.specs.Prelude.{◌≡◌};
-ghost use Rattle.nfs2_wire.specs.AllCalls.{opened, getattr_call, setattr_call, lookup_call, readlink_call, read_call, create_call, remove_call, rename_call, link_call, mkdir_call, rmdir_call, readdir_call, statfs_call};
+ghost use Rattle.nfs2_wire.specs.AllCalls.{opened, of_file, of_name, of_new, file_call, name_call, new_call, setattr_call, read_call, rename_call, link_call, readdir_call};
 
 use crate::arguments::{getattr_args_of, read_args_of};
 use crate::handle::{Handle, file_on_volume, open_handle};
 use crate::shapes::{
     link_args_of, name_args_of, new_args_of, part_args_of, rename_args_of, set_args_of,
 };
-use files_model::{Call, Name};
+use files_model::{Call, FileId, Name, Sattr};
 
 /// A call on an open volume.
 #[derive(Drop)]
@@ -33,13 +33,91 @@ pub fn opened_by(bytes: &[u8], volumes: u32) -> Result<Handle, Unread>
     }
 }
 
-#[tactic(auto, unfolding(crate::specs::AllCalls::getattr_call))]
-pub fn read_getattr(bytes: &[u8], volumes: u32) -> Result<VolumeCall, Unread>
-    ensures { result ≡ getattr_call volumes bytes.now }
+/// What is asked of the file of a handle alone.
+#[derive(Clone, Copy)]
+pub enum OfFile {
+    Getattr,
+    Readlink,
+    Statfs,
+}
+
+/// What is asked of a name in a directory.
+#[derive(Clone, Copy)]
+pub enum OfName {
+    Lookup,
+    Remove,
+    Rmdir,
+}
+
+/// What is made with a name and attributes.
+#[derive(Clone, Copy)]
+pub enum OfNew {
+    Create,
+    Mkdir,
+}
+
+fn call_of_file(asked: OfFile, file: FileId) -> Call
+    ensures { result ≡ of_file asked file }
+{
+    match asked {
+        OfFile::Getattr => Call::Getattr { file },
+        OfFile::Readlink => Call::Readlink { file },
+        OfFile::Statfs => Call::Statfs { file },
+    }
+}
+
+fn call_of_name(asked: OfName, dir: FileId, name: Name) -> Call
+    ensures { result ≡ of_name asked dir name }
+{
+    match asked {
+        OfName::Lookup => Call::Lookup { dir, name },
+        OfName::Remove => Call::Remove { dir, name },
+        OfName::Rmdir => Call::Rmdir { dir, name },
+    }
+}
+
+fn call_of_new(asked: OfNew, dir: FileId, name: Name, set: Sattr) -> Call
+    ensures { result ≡ of_new asked dir name set }
+{
+    match asked {
+        OfNew::Create => Call::Create { dir, name, set },
+        OfNew::Mkdir => Call::Mkdir { dir, name, set },
+    }
+}
+
+#[tactic(auto, unfolding(crate::specs::AllCalls::file_call))]
+pub fn read_of_file(asked: OfFile, bytes: &[u8], volumes: u32) -> Result<VolumeCall, Unread>
+    ensures { result ≡ file_call asked volumes bytes.now }
 {
     let a = getattr_args_of(bytes).ok_or(Unread::Garbage)?;
     let h = opened_by(a, volumes)?;
-    let call = Call::Getattr { file: h.file };
+    let call = call_of_file(asked, h.file);
+    Ok(VolumeCall {
+        volume: h.volume,
+        call,
+    })
+}
+
+#[tactic(auto, unfolding(crate::specs::AllCalls::name_call))]
+pub fn read_of_name(asked: OfName, bytes: &[u8], volumes: u32) -> Result<VolumeCall, Unread>
+    ensures { result ≡ name_call asked volumes bytes.now }
+{
+    let a = name_args_of(bytes).ok_or(Unread::Garbage)?;
+    let h = opened_by(a.dir, volumes)?;
+    let call = call_of_name(asked, h.file, Name::copy(a.name));
+    Ok(VolumeCall {
+        volume: h.volume,
+        call,
+    })
+}
+
+#[tactic(auto, unfolding(crate::specs::AllCalls::new_call))]
+pub fn read_of_new(asked: OfNew, bytes: &[u8], volumes: u32) -> Result<VolumeCall, Unread>
+    ensures { result ≡ new_call asked volumes bytes.now }
+{
+    let a = new_args_of(bytes).ok_or(Unread::Garbage)?;
+    let h = opened_by(a.at.dir, volumes)?;
+    let call = call_of_new(asked, h.file, Name::copy(a.at.name), a.set);
     Ok(VolumeCall {
         volume: h.volume,
         call,
@@ -62,35 +140,6 @@ pub fn read_setattr(bytes: &[u8], volumes: u32) -> Result<VolumeCall, Unread>
     })
 }
 
-#[tactic(auto, unfolding(crate::specs::AllCalls::lookup_call))]
-pub fn read_lookup(bytes: &[u8], volumes: u32) -> Result<VolumeCall, Unread>
-    ensures { result ≡ lookup_call volumes bytes.now }
-{
-    let a = name_args_of(bytes).ok_or(Unread::Garbage)?;
-    let h = opened_by(a.dir, volumes)?;
-    let call = Call::Lookup {
-        dir: h.file,
-        name: Name::copy(a.name),
-    };
-    Ok(VolumeCall {
-        volume: h.volume,
-        call,
-    })
-}
-
-#[tactic(auto, unfolding(crate::specs::AllCalls::readlink_call))]
-pub fn read_readlink(bytes: &[u8], volumes: u32) -> Result<VolumeCall, Unread>
-    ensures { result ≡ readlink_call volumes bytes.now }
-{
-    let a = getattr_args_of(bytes).ok_or(Unread::Garbage)?;
-    let h = opened_by(a, volumes)?;
-    let call = Call::Readlink { file: h.file };
-    Ok(VolumeCall {
-        volume: h.volume,
-        call,
-    })
-}
-
 #[tactic(auto, unfolding(crate::specs::AllCalls::read_call))]
 pub fn read_read(bytes: &[u8], volumes: u32) -> Result<VolumeCall, Unread>
     ensures { result ≡ read_call volumes bytes.now }
@@ -101,39 +150,6 @@ pub fn read_read(bytes: &[u8], volumes: u32) -> Result<VolumeCall, Unread>
         file: h.file,
         offset: a.offset,
         count: a.count,
-    };
-    Ok(VolumeCall {
-        volume: h.volume,
-        call,
-    })
-}
-
-#[tactic(auto, unfolding(crate::specs::AllCalls::create_call))]
-pub fn read_create(bytes: &[u8], volumes: u32) -> Result<VolumeCall, Unread>
-    ensures { result ≡ create_call volumes bytes.now }
-{
-    let a = new_args_of(bytes).ok_or(Unread::Garbage)?;
-    let h = opened_by(a.at.dir, volumes)?;
-    let call = Call::Create {
-        dir: h.file,
-        name: Name::copy(a.at.name),
-        set: a.set,
-    };
-    Ok(VolumeCall {
-        volume: h.volume,
-        call,
-    })
-}
-
-#[tactic(auto, unfolding(crate::specs::AllCalls::remove_call))]
-pub fn read_remove(bytes: &[u8], volumes: u32) -> Result<VolumeCall, Unread>
-    ensures { result ≡ remove_call volumes bytes.now }
-{
-    let a = name_args_of(bytes).ok_or(Unread::Garbage)?;
-    let h = opened_by(a.dir, volumes)?;
-    let call = Call::Remove {
-        dir: h.file,
-        name: Name::copy(a.name),
     };
     Ok(VolumeCall {
         volume: h.volume,
@@ -176,39 +192,6 @@ pub fn read_link(bytes: &[u8], volumes: u32) -> Result<VolumeCall, Unread>
     })
 }
 
-#[tactic(auto, unfolding(crate::specs::AllCalls::mkdir_call))]
-pub fn read_mkdir(bytes: &[u8], volumes: u32) -> Result<VolumeCall, Unread>
-    ensures { result ≡ mkdir_call volumes bytes.now }
-{
-    let a = new_args_of(bytes).ok_or(Unread::Garbage)?;
-    let h = opened_by(a.at.dir, volumes)?;
-    let call = Call::Mkdir {
-        dir: h.file,
-        name: Name::copy(a.at.name),
-        set: a.set,
-    };
-    Ok(VolumeCall {
-        volume: h.volume,
-        call,
-    })
-}
-
-#[tactic(auto, unfolding(crate::specs::AllCalls::rmdir_call))]
-pub fn read_rmdir(bytes: &[u8], volumes: u32) -> Result<VolumeCall, Unread>
-    ensures { result ≡ rmdir_call volumes bytes.now }
-{
-    let a = name_args_of(bytes).ok_or(Unread::Garbage)?;
-    let h = opened_by(a.dir, volumes)?;
-    let call = Call::Rmdir {
-        dir: h.file,
-        name: Name::copy(a.name),
-    };
-    Ok(VolumeCall {
-        volume: h.volume,
-        call,
-    })
-}
-
 #[tactic(auto, unfolding(crate::specs::AllCalls::readdir_call))]
 pub fn read_readdir(bytes: &[u8], volumes: u32) -> Result<VolumeCall, Unread>
     ensures { result ≡ readdir_call volumes bytes.now }
@@ -220,19 +203,6 @@ pub fn read_readdir(bytes: &[u8], volumes: u32) -> Result<VolumeCall, Unread>
         cookie: a.first,
         count: a.count,
     };
-    Ok(VolumeCall {
-        volume: h.volume,
-        call,
-    })
-}
-
-#[tactic(auto, unfolding(crate::specs::AllCalls::statfs_call))]
-pub fn read_statfs(bytes: &[u8], volumes: u32) -> Result<VolumeCall, Unread>
-    ensures { result ≡ statfs_call volumes bytes.now }
-{
-    let a = getattr_args_of(bytes).ok_or(Unread::Garbage)?;
-    let h = opened_by(a, volumes)?;
-    let call = Call::Statfs { file: h.file };
     Ok(VolumeCall {
         volume: h.volume,
         call,

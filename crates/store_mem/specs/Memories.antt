@@ -1,5 +1,5 @@
 -- A store in memory, and what a put makes of it.
-use Rattle.std.specs.Prelude.{◌≡◌, ◌≢◌, ℕ, ◌+◌, ◌%◌, ◌^◌, List, set, replicate, nat_lt, if◌then◌else◌, None, Result, Ok, Err}
+use Rattle.std.specs.Prelude.{◌≡◌, ◌≢◌, ℕ, ◌+◌, ◌%◌, ◌^◌, List, set, replicate, get_or, min, nat_lt, if◌then◌else◌, None, Result, Ok, Err}
 use Rattle.stable.specs.Counts.{one_more}
 use Rattle.stable.specs.Store.{Image}
 use Rattle.stable.specs.declared.battery.Battery.TheVariants.{Low}
@@ -11,6 +11,7 @@ pub record IsNew (sectors : Image) (store : Memory) : Type 0 where
   pub holds : store.sectors.items ≡ sectors
   pub order : store.order ≡ replicate 8 0
   pub puts : store.puts ≡ 0
+  pub reads : store.reads ≡ replicate 64 0
   pub polls : store.polls ≡ 0
   pub ups : store.ups ≡ 0
   pub faults : store.faults ≡ 0
@@ -18,11 +19,17 @@ pub record IsNew (sectors : Image) (store : Memory) : Type 0 where
   pub battery : store.battery ≡ Low
   pub stop : store.stop ≡ None
 
+-- One more read of a sector is counted, where it is one of the first 64, and nothing else changes.
+pub record IsReadAt (sector : ℕ) (old new : Memory) : Type 0 where
+  pub reads : new.reads ≡ (if nat_lt sector 64 then set old.reads sector (min (get_or old.reads sector 0 + 1) 4294967295) else old.reads)
+  pub rest : new ≡ record old { reads = new.reads }
+
 -- One more put was asked for; it is one of the first eight, or comes after them.
 pub record IsCounted (sector : ℕ) (old new : Memory) : Type 0 where
   pub puts : new.puts ≡ (old.puts + 1) % 2 ^ 64
   pub order : new.order ≡ (if nat_lt old.puts 8 then set old.order old.puts sector else old.order)
   pub failing : new.failing ≡ old.failing
+  pub reads : new.reads ≡ old.reads
   pub polls : new.polls ≡ old.polls
   pub ups : new.ups ≡ old.ups
 

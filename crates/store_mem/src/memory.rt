@@ -7,7 +7,7 @@ use stable::{
 use std::alloc::Global;
 
 /// A store that is always DOWN and whose battery is low, of as many sectors as it is made with. It tells no contract what it holds. It keeps
-/// which sectors were put, and how it was steered; one of its puts can be made to fail.
+/// which sectors were put, how often sectors were read, and how it was steered; one of its puts can be made to fail.
 #[derive(Drop)]
 pub struct Memory {
     /// What each sector holds.
@@ -16,6 +16,8 @@ pub struct Memory {
     pub order: [u32; 8],
     /// How often a sector was put, modulo 2 to the 64.
     pub puts: u64,
+    /// How often each of the first 64 sectors was read, at most 4,294,967,295 times.
+    pub reads: [u32; 64],
     pub polls: u64,
     pub ups: u64,
     pub faults: u64,
@@ -32,7 +34,7 @@ pub struct Memory {
 impl Memory {
     ghost use Rattle.std.specs.Prelude.{◌≡◌, ◌<◌, ◌^◌, length, get_or, replicate, IfOk};
     ghost use Rattle.stable.specs.Counts.{HasCause};
-    ghost use Rattle.store_mem.specs.Memories.{IsNew, IsCounted, Leaves};
+    ghost use Rattle.store_mem.specs.Memories.{IsNew, IsReadAt, IsCounted, Leaves};
 
     /// A store of these sectors, on which no call was made.
     pub fn new(alloc: Global, sectors: &[[u8; 512]]) -> Result<Memory, NoMemory>
@@ -45,6 +47,7 @@ impl Memory {
             sectors: held,
             order: [0; 8],
             puts: 0,
+            reads: [0; 64],
             polls: 0,
             ups: 0,
             faults: 0,
@@ -61,6 +64,15 @@ impl Memory {
         match self.sectors.get(sector as usize) {
             Some(bytes) => *bytes,
             None => [0; 512],
+        }
+    }
+
+    // Counts a read of a sector.
+    fn count_read(&mut self, sector: u32)
+        ensures { IsReadAt sector self.old self.new }
+    {
+        if sector < 64 {
+            self.reads[sector as usize] = self.reads[sector as usize].saturating_add(1);
         }
     }
 
@@ -126,6 +138,7 @@ impl Stable for Memory {
     }
 
     fn get(&mut self, sector: u32, into: &mut [u8; 512]) -> Result<(), Failed> {
+        self.count_read(sector);
         *into = self.sector(sector);
         Ok(())
     }

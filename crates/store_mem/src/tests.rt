@@ -62,6 +62,7 @@ fn a_store_is_down_and_keeps_how_it_was_steered(rt: HostRuntime) -> Result<(), F
     let mut store = Memory::new(rt.alloc(), &[[7; 512]; 2]).map_err(|_| "memory")?;
     let mut bytes = [0; 512];
     assert!(rt; store.sectors() == 2 && store.get(1, &mut bytes) == Ok(()) && bytes == [7; 512]);
+    assert!(rt; store.reads[0] == 0 && store.reads[1] == 1);
     store.set_battery(Battery::Good);
     store.stop_after(3, true);
     assert!(rt; store.poll() == Battery::Low);

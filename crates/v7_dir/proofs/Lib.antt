@@ -1,1 +1,2 @@
+mod BadNames
 pub mod Firsts

@@ -4,7 +4,7 @@
 mod name;
 mod slots;
 
-pub use name::good_name;
+pub use name::{MOST_NAME, good_name, is_bad, is_dots};
 pub use slots::{find, first_empty};
 
 #[cfg(test)]

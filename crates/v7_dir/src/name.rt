@@ -1,22 +1,24 @@
 // Names that may be made.
 
 ghost use Rattle.std.specs.Prelude.{◌≡◌};
-ghost use Rattle.v7_dir.specs.Names.{is_bad, is_dots, is_good_name};
+ghost use Rattle.files_model.specs.Names.{is_bad, is_dots};
+ghost use Rattle.v7_dir.specs.Names.{is_good_name};
 
 use files_model::Name;
 
-// How many bytes of name a slot has.
-const MOST_NAME: usize = 14;
+/// How many bytes of name a slot has (filsys(5)).
+pub const MOST_NAME: usize = 14;
 
-// The name is empty, or has a byte 0 or a slash.
-fn is_bad(name: &[u8]) -> bool
+/// Whether the name is empty, or has a byte 0 or a slash.
+#[tactic(auto, using(crate::proofs::BadNames::bad_is))]
+pub fn is_bad(name: &[u8]) -> bool
     ensures { result ≡ is_bad name.now }
 {
     name.is_empty() || name.contains(&0) || name.contains(&b'/')
 }
 
-// The name is `.` or `..`.
-fn is_dots(name: &[u8]) -> bool
+/// Whether the name is `.` or `..`.
+pub fn is_dots(name: &[u8]) -> bool
     ensures { result ≡ is_dots name.now }
 {
     name == b".".as_slice() || name == b"..".as_slice()

@@ -4,7 +4,8 @@ ghost use Rattle.std.specs.Prelude.{◌≡◌, ◌<◌, ◌≤◌, ◌*◌, ◌/
 ghost use Rattle.std.specs.List.{position, take_while};
 ghost use Rattle.std.specs.Option.{is_none};
 ghost use Rattle.v7_layout.specs.Numbers.{part};
-ghost use Rattle.v7_dir.specs.Slots.{has_name, slot_in, slots_in};
+ghost use Rattle.files_model.specs.Names.{has_name};
+ghost use Rattle.v7_dir.specs.Slots.{slot_in, slots_in};
 
 use files_model::Name;
 use v7_layout::{Record, Slot};

@@ -1,4 +1,3 @@
 pub mod SectorSlots
 pub mod Directories
 pub mod Lookups
-pub mod BadNames

@@ -1,31 +1,12 @@
 // What calls on directories refuse, by the records.
 
-ghost use Rattle.std.specs.Prelude.{◌≡◌, ◌||◌};
-ghost use Rattle.files_model.specs.Names.{is_bad};
-ghost use Rattle.v7_dir.specs.Names.{has_byte};
+ghost use Rattle.std.specs.Prelude.{◌≡◌};
 ghost use Rattle.v7_entries.specs.Answers.{lookup_refusal_by, search_refusal_by};
 
 use files_model::{Cred, Kind, Name, Stat, Want, may};
+use v7_dir::{MOST_NAME, is_bad};
 use v7_layout::Inode;
 use v7_map::{attributes_of, kind_of};
-
-/// How many bytes of name a slot has (filsys(5)).
-const MOST_NAME: usize = 14;
-
-// The name has a byte 0 or a slash.
-fn has_bad_byte(name: &[u8]) -> bool
-    ensures { result ≡ (has_byte 0 name.now || has_byte 47 name.now) }
-{
-    name.contains(&0) || name.contains(&b'/')
-}
-
-// The name is empty, or has a byte 0 or a slash.
-#[tactic(auto, using(crate::proofs::BadNames::any_either))]
-fn is_bad(name: &[u8]) -> bool
-    ensures { result ≡ is_bad name.now }
-{
-    name.is_empty() || has_bad_byte(name)
-}
 
 /// The refusal of a LOOKUP before its name is looked up (RFC 1094 2.2.5), if any: NOTDIR where the inode is no directory's, ACCES where the name is
 /// empty or has a byte 0 or a `/`, NAMETOOLONG above 14 bytes.

@@ -4,12 +4,13 @@ ghost use Rattle.std.specs.Prelude.{◌≡◌, length, IfOk};
 ghost use Rattle.v7_layout.specs.Written.{AddressesFit};
 
 use crate::mend;
-use stable::{Failed, NoMemory, Stable};
+use stable::{Failed, NoMemory};
 use std::alloc::Global;
 use std::test::Fail;
 use store_mem::Memory;
 use v7_layout::{Inode, Record, Super};
 use v7_map::inode_offset_of;
+use volume_mem::{FRESH, ROOT};
 
 // How many slots name each inode, from 0 on: two the root, and one file 3.
 const LINKS: [u16; 17] = [0, 0, 2, 1, 0, 0, 0, 0, 0, 0, 0, 0, 0, 0, 0, 0, 0];
@@ -18,20 +19,7 @@ const LINKS: [u16; 17] = [0, 0, 2, 1, 0, 0, 0, 0, 0, 0, 0, 0, 0, 0, 0, 0, 0];
 fn file() -> Inode
     ensures { AddressesFit result }
 {
-    Inode {
-        mode: 0o100_644,
-        nlink: 1,
-        uid: 100,
-        gid: 100,
-        size: 1024,
-        direct: [5, 6, 0, 0, 0, 0, 0, 0, 0, 0],
-        single: 0,
-        double: 0,
-        generation: 1,
-        atime: 1000,
-        mtime: 1000,
-        ctime: 1000,
-    }
+    volume_mem::file(FRESH)
 }
 
 // The sector with this inode at its number.
@@ -51,21 +39,7 @@ fn inodes(file: &Inode, fourth: &Inode) -> [u8; 512]
     requires file { AddressesFit file.now }
     requires fourth { AddressesFit fourth.now }
 {
-    let root = Inode {
-        mode: 0o040_755,
-        nlink: 2,
-        uid: 0,
-        gid: 0,
-        size: 48,
-        direct: [4, 0, 0, 0, 0, 0, 0, 0, 0, 0],
-        single: 0,
-        double: 0,
-        generation: 1,
-        atime: 1000,
-        mtime: 1000,
-        ctime: 1000,
-    };
-    let bytes = with_inode(&[0; 512], 2, &root);
+    let bytes = with_inode(&[0; 512], 2, &ROOT);
     let bytes = with_inode(&bytes, 3, file);
     with_inode(&bytes, 4, fourth)
 }
@@ -317,66 +291,6 @@ fn a_mend_that_fails_is_gone_on_with(rt: HostRuntime) -> Result<(), Fail> {
     Ok(())
 }
 
-/// A store in memory that counts how often each sector was read.
-#[derive(Drop)]
-pub struct Counting {
-    store: Memory,
-    reads: [u32; 64],
-}
-
-impl Stable for Counting {
-    ghost use Rattle.std.specs.Prelude.{[], length};
-    ghost use Rattle.std.proofs.Common.{refl};
-    ghost use Rattle.stable.specs.declared.battery.Battery.TheVariants as battery;
-    ghost use Rattle.stable.specs.declared.state.State.TheVariants as state;
-
-    ghost tells = { ⊥ };
-
-    ghost image = { λ s. [] };
-
-    ghost moment = { λ s. 0 };
-
-    ghost left_since = { λ s t i. ⊥ };
-
-    ghost opens_since = { λ s t. ⊥ };
-
-    ghost sector_count = { λ s. length s.store.sectors.items };
-
-    ghost faults = { λ s. s.store.faults };
-
-    ghost snapshot_of = { λ s. record { state = state.Down; dirty = 0; battery = battery.Low; puts = s.store.puts; polls = s.store.polls; ups = s.store.ups; tries = 0 } };
-
-    ghost clocked = { record {
-      now = λ s t told le. told;
-      only = λ s d left. absurd left;
-      wider = λ s t u d le left. left;
-      told = λ s t d left. left;
-    } };
-
-    ghost shape = { λ s t i left. absurd left };
-
-    ghost opens_later = { λ s t u le opens. opens };
-
-    ghost counted = { λ s. s.store.counted };
-
-    ghost down = { λ s down. refl };
-
-    fn sectors(&self) -> u32 {
-        self.store.sectors()
-    }
-
-    fn get(&mut self, sector: u32, into: &mut [u8; 512]) -> Result<(), Failed> {
-        if sector < 64 {
-            self.reads[sector as usize] = self.reads[sector as usize].saturating_add(1);
-        }
-        self.store.get(sector, into)
-    }
-
-    fn put(&mut self, sector: u32, bytes: &[u8; 512]) -> Result<(), Failed> {
-        self.store.put(sector, bytes)
-    }
-}
-
 #[test]
 fn each_sector_is_read_at_most_twice(rt: HostRuntime) -> Result<(), Fail> {
     let long = Inode {
@@ -389,17 +303,13 @@ fn each_sector_is_read_at_most_twice(rt: HostRuntime) -> Result<(), Fail> {
         last: last_inode(0o100_600, 7),
         block: listing(&[8, 0, 9]),
     };
-    let store = volume(rt.alloc(), &shape).map_err(|_| "memory")?;
-    let mut counting = Counting {
-        store,
-        reads: [0; 64],
-    };
-    assert!(rt; mend(&mut counting, 4, &LINKS) == Ok(2));
-    assert!(rt; counting.store.order.starts_with(&[10, 3]));
+    let mut store = volume(rt.alloc(), &shape).map_err(|_| "memory")?;
+    assert!(rt; mend(&mut store, 4, &LINKS) == Ok(2));
+    assert!(rt; store.order.starts_with(&[10, 3]));
     let mut wanted = [0; 64];
     wanted[2] = 2;
     wanted[3] = 2;
     wanted[10] = 2;
-    assert!(rt; counting.reads == wanted);
+    assert!(rt; store.reads == wanted);
     Ok(())
 }

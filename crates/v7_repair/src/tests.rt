@@ -1,7 +1,6 @@
 //! The test volume with other bytes here and there.
 
 use crate::repair;
-use stable::{Failed, Stable};
 use std::alloc::Global;
 use std::test::Fail;
 use store_mem::Memory;
@@ -199,66 +198,6 @@ fn a_repair_that_fails_is_gone_on_with(rt: HostRuntime) -> Result<(), Fail> {
     Ok(())
 }
 
-/// A store in memory that counts how often each sector was read.
-#[derive(Drop)]
-pub struct Counting {
-    store: Memory,
-    reads: [u32; 64],
-}
-
-impl Stable for Counting {
-    ghost use Rattle.std.specs.Prelude.{[], length};
-    ghost use Rattle.std.proofs.Common.{refl};
-    ghost use Rattle.stable.specs.declared.battery.Battery.TheVariants as battery;
-    ghost use Rattle.stable.specs.declared.state.State.TheVariants as state;
-
-    ghost tells = { ⊥ };
-
-    ghost image = { λ s. [] };
-
-    ghost moment = { λ s. 0 };
-
-    ghost left_since = { λ s t i. ⊥ };
-
-    ghost opens_since = { λ s t. ⊥ };
-
-    ghost sector_count = { λ s. length s.store.sectors.items };
-
-    ghost faults = { λ s. s.store.faults };
-
-    ghost snapshot_of = { λ s. record { state = state.Down; dirty = 0; battery = battery.Low; puts = s.store.puts; polls = s.store.polls; ups = s.store.ups; tries = 0 } };
-
-    ghost clocked = { record {
-      now = λ s t told le. told;
-      only = λ s d left. absurd left;
-      wider = λ s t u d le left. left;
-      told = λ s t d left. left;
-    } };
-
-    ghost shape = { λ s t i left. absurd left };
-
-    ghost opens_later = { λ s t u le opens. opens };
-
-    ghost counted = { λ s. s.store.counted };
-
-    ghost down = { λ s down. refl };
-
-    fn sectors(&self) -> u32 {
-        self.store.sectors()
-    }
-
-    fn get(&mut self, sector: u32, into: &mut [u8; 512]) -> Result<(), Failed> {
-        if sector < 64 {
-            self.reads[sector as usize] = self.reads[sector as usize].saturating_add(1);
-        }
-        self.store.get(sector, into)
-    }
-
-    fn put(&mut self, sector: u32, bytes: &[u8; 512]) -> Result<(), Failed> {
-        self.store.put(sector, bytes)
-    }
-}
-
 /// A file of eleven sectors, the last by the block of addresses 7, which has an address past the size too; its stored count is 5. In the next sector
 /// an inode that nothing names, so that it is passed over where the named ones are judged.
 #[test]
@@ -271,26 +210,22 @@ fn no_sector_is_read_often(rt: HostRuntime) -> Result<(), Fail> {
         (7, 4, 9),
         (3, 449, 0x81),
     ];
-    let store = patched(rt.alloc(), &patches)?;
-    let mut counting = Counting {
-        store,
-        reads: [0; 64],
-    };
-    assert!(rt; inspect(rt.alloc(), &mut counting).is_ok());
+    let mut store = patched(rt.alloc(), &patches)?;
+    assert!(rt; inspect(rt.alloc(), &mut store).is_ok());
     let mut inspected = [0; 64];
     for (sector, times) in [(1, 1), (2, 1), (3, 1), (4, 2), (7, 1)] {
         inspected[sector] = times;
     }
-    assert!(rt; counting.reads == inspected);
-    counting.reads = [0; 64];
-    assert!(rt; repair(rt.alloc(), &mut counting).is_ok());
-    assert!(rt; counting.store.order.starts_with(&[7, 2, 3]));
+    assert!(rt; store.reads == inspected);
+    store.reads = [0; 64];
+    assert!(rt; repair(rt.alloc(), &mut store).is_ok());
+    assert!(rt; store.order.starts_with(&[7, 2, 3]));
     let mut most = [0; 64];
     most[1] = 1;
     most[2] = 5;
     most[3] = 4;
     most[4] = 2;
     most[7] = 4;
-    assert!(rt; counting.reads == most);
+    assert!(rt; store.reads == most);
     Ok(())
 }

@@ -4,5 +4,5 @@
 mod records;
 mod sectors;
 
-pub use records::{FRESH, Shape, WRITTEN, file};
+pub use records::{FRESH, ROOT, Shape, WRITTEN, file};
 pub use sectors::{sectors_of, test_volume};

@@ -57,7 +57,7 @@ pub(crate) fn super_block(read_only: u8) -> Super {
 }
 
 /// The root, inode 2, of three slots in sector 4.
-pub(crate) const ROOT: Inode = Inode {
+pub const ROOT: Inode = Inode {
     mode: 0o040_755,
     nlink: 2,
     uid: 0,

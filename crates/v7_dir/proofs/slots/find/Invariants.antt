@@ -1,5 +1,6 @@
 use Rattle.std.proofs.Common.{◌≡◌, ℕ, ◌<◌, false}
-use Rattle.v7_dir.specs.Slots.{has_name, slot_in}
+use Rattle.files_model.specs.Names.{has_name}
+use Rattle.v7_dir.specs.Slots.{slot_in}
 use Rattle.v7_dir.proofs.slots.find.Given as goal
 
 abbrev pub invariant-loop-k : goal.invariant-loop-k
