@@ -3,7 +3,6 @@
 
 mod batch;
 mod calling;
-mod fault;
 mod getattr;
 mod giving;
 mod lookup;
@@ -12,6 +11,8 @@ mod mounted;
 mod opening;
 mod outcome;
 mod read;
+mod readdir;
+mod readlink;
 mod setattr;
 mod starting;
 mod statfs;
