@@ -1,17 +1,23 @@
 //! A directory of `.`, `..` and 40 names in two sectors of a small volume, and a link of two.
 
 use super::*;
-use files_model::Entry;
+use files_model::{Entry, FileId};
 use stable::NoMemory;
 use std::alloc::Global;
 use std::test::Fail;
 use store_mem::Memory;
 use v7_layout::{Inode, Record, Slot};
-use v7_map::{Found, empty_sector};
-use volume_mem::{FRESH, test_volume};
+use v7_map::{empty_sector, find};
+use volume_mem::{FRESH, Shape, test_volume};
 
 /// How many slots the directory has.
 const SLOTS: usize = 42;
+
+/// The volume where file 3, of 1,024 bytes, is a symbolic link.
+const LINK: Shape = Shape {
+    mode: 0o120_777,
+    ..FRESH
+};
 
 // The name in slot k: `.`, `..`, or eight bytes.
 fn name_of(k: usize) -> [u8; 14] {
@@ -49,9 +55,9 @@ fn slots(second: bool, emptied: usize) -> [u8; 512] {
     sector
 }
 
-// The volume with the slots in sectors 4 and 7.
+// The volume of a link, with the slots in sectors 4 and 7.
 fn store(alloc: Global, emptied: usize) -> Result<Memory, NoMemory> {
-    let mut sectors = test_volume(alloc, FRESH)?;
+    let mut sectors = test_volume(alloc, LINK)?;
     // a store asks that its sectors can be numbered
     sectors.truncate(64);
     if let Some(first) = sectors.get_mut(4) {
@@ -63,13 +69,13 @@ fn store(alloc: Global, emptied: usize) -> Result<Memory, NoMemory> {
     Memory::new(alloc, &sectors)
 }
 
-// A body of so many bytes in two sectors.
-fn inode(mode: u16, size: u32, first: u32, second: u32) -> Inode {
+// The directory, of 42 slots.
+fn directory() -> Inode {
     let mut inode = Inode::read(&[0; 64]);
-    inode.mode = mode;
-    inode.size = size;
-    inode.direct[0] = first;
-    inode.direct[1] = second;
+    inode.mode = 0o040_755;
+    inode.size = 16 * 42;
+    inode.direct[0] = 4;
+    inode.direct[1] = 7;
     inode
 }
 
@@ -89,7 +95,7 @@ fn is_entry(entry: &Entry, k: usize) -> bool {
 // Whether a listing has so many entries, in slots that follow each other from one on, and this end.
 fn lists(listing: &Listing, first: usize, many: usize, end: bool) -> bool {
     for (k, entry) in listing.list.list().iter().enumerate() {
-        if !is_entry(entry, (first + k) % 64) {
+        if !is_entry(entry, (first % 64 + k % 64) % 64) {
             return false;
         }
     }
@@ -100,7 +106,7 @@ fn lists(listing: &Listing, first: usize, many: usize, end: bool) -> bool {
 fn pages_of_a_directory(rt: HostRuntime) -> Result<(), Fail> {
     let alloc = rt.alloc();
     let mut store = store(alloc, SLOTS).map_err(|_| "memory")?;
-    let dir = inode(0o040_755, 16 * 42, 4, 7);
+    let dir = directory();
     for (cookie, count, many, end) in [
         (0, 512, 21, false),
         (21, 512, 20, false),
@@ -121,7 +127,7 @@ fn pages_of_a_directory(rt: HostRuntime) -> Result<(), Fail> {
 fn empty_slots_are_passed_over(rt: HostRuntime) -> Result<(), Fail> {
     let alloc = rt.alloc();
     let mut store = store(alloc, 41).map_err(|_| "memory")?;
-    let dir = inode(0o040_755, 16 * 42, 4, 7);
+    let dir = directory();
     let listing = list_entries(alloc, &mut store, &dir, 40, 512).map_err(|_| "failed")?;
     assert!(rt; lists(&listing, 40, 1, true));
     Ok(())
@@ -131,10 +137,12 @@ fn empty_slots_are_passed_over(rt: HostRuntime) -> Result<(), Fail> {
 fn a_link_of_1024_bytes(rt: HostRuntime) -> Result<(), Fail> {
     let alloc = rt.alloc();
     let mut store = store(alloc, SLOTS).map_err(|_| "memory")?;
-    let link = Found {
-        read_only: false,
-        inode: inode(0o120_777, 1024, 5, 6),
-        sector: empty_sector(),
+    let file = FileId {
+        ino: 3,
+        generation: 1,
+    };
+    let Ok(Some(link)) = find(&mut store, file) else {
+        return Err(Fail::new("no link"));
     };
     let text = read_content(alloc, &mut store, &link, 0, 1024).map_err(|_| "failed")?;
     assert!(rt; text.as_slice() == [b'a'; 1024].as_slice());
