@@ -66,8 +66,10 @@ fn is_known(call: &Call) -> bool
         Call::Getattr { .. }
             | Call::Setattr { .. }
             | Call::Lookup { .. }
+            | Call::Readlink { .. }
             | Call::Read { .. }
             | Call::Write { .. }
+            | Call::Readdir { .. }
             | Call::Statfs { .. }
     )
 }

@@ -8,6 +8,7 @@ mod growths;
 mod hurts;
 mod names;
 mod outside;
+mod reading;
 mod refusals;
 mod runs;
 mod several;

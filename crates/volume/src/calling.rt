@@ -11,6 +11,8 @@ use crate::getattr::getattr;
 use crate::lookup::lookup;
 use crate::outcome::Outcome;
 use crate::read::read;
+use crate::readdir::readdir;
+use crate::readlink::readlink;
 use crate::setattr::setattr;
 use crate::statfs::statfs;
 use crate::write::write;
@@ -76,6 +78,10 @@ pub fn make_call<S: Stable>(
             bytes,
         } => write(alloc, store, sets, *file, *offset, bytes.bytes(), cred, now),
         Call::Lookup { dir, name } => lookup(store, *dir, name, cred, now),
+        Call::Readlink { file } => readlink(alloc, store, *file, cred, now),
+        Call::Readdir { dir, cookie, count } => {
+            readdir(alloc, store, *dir, *cookie, *count, cred, now)
+        }
         Call::Statfs { file } => statfs(store, sets, *file, cred, now),
         _ => unreachable!(),
     }
