@@ -66,10 +66,12 @@ fn is_known(call: &Call) -> bool
         Call::Getattr { .. }
             | Call::Setattr { .. }
             | Call::Lookup { .. }
+            | Call::Readlink { .. }
             | Call::Read { .. }
             | Call::Write { .. }
             | Call::Create { .. }
             | Call::Remove { .. }
+            | Call::Readdir { .. }
             | Call::Statfs { .. }
     )
 }

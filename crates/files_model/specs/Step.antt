@@ -20,6 +20,8 @@ has_row (call.Write file offset bytes) = true
 has_row (call.Lookup dir name) = true
 has_row (call.Create dir name wanted) = true
 has_row (call.Remove dir name) = true
+has_row (call.Readlink file) = true
+has_row (call.Readdir dir cookie count) = true
 has_row (call.Statfs file) = true
 has_row _ = false
 

@@ -1,10 +1,14 @@
 -- A call that was made is one event of one hold.
-use Rattle.std.proofs.Common.{◌≡◌, ℕ, ◌≤◌, [], ◌∷◌, Bool, true, refl, sym, inl, arith, length}
+use Rattle.std.proofs.Common.{◌≡◌, ℕ, ◌+◌, ◌≤◌, List, [], ◌∷◌, Bool, true, refl, sym, inl, arith, length}
+use Rattle.std.proofs.lemmas.List.Sums.{sum_by-le-sum_by}
+use Rattle.std.specs.List.{sum_by}
 use Rattle.files_model.specs.declared.call.Call.{Call}
 use Rattle.files_model.specs.declared.call.Call.TheVariants as call
+use Rattle.files_model.specs.declared.entries.Entry.{Entry}
 use Rattle.files_model.specs.declared.reply.Reply.{Reply}
 use Rattle.files_model.specs.declared.reply.Reply.TheVariants as reply
 use Rattle.files_model.specs.declared.reply.Stat.TheVariants as stat
+use Rattle.files_model.specs.ReadingRows.{entry_size}
 use Rattle.files_model.specs.Step.{has_row}
 use Rattle.files_model.specs.History.{Event, Item}
 use Rattle.files_model.specs.History.Event.{Done, Failed}
@@ -15,6 +19,7 @@ use Rattle.stable.proofs.Clocked.{weaker, ends}
 use Rattle.v7_map.specs.Frame.{frame}
 use Rattle.v7_map.specs.View.{view}
 use Rattle.v7_map.specs.Weak.{IsWeak}
+use Rattle.nfs2_wire.specs.Bounds.{entry_room}
 use Rattle.nfs2_wire.specs.Replies.{bytes_of, longest_of}
 use Rattle.nfs2_wire.proofs.Lengths.{short_fits, data_fits, answer_fits}
 use Rattle.volume.specs.declared.outcome.Outcome.TheVariants as outcome
@@ -23,6 +28,10 @@ use Rattle.nfs_worker.specs.Account.{Grew}
 use Rattle.volume.specs.Applied.{HasForm, Applies}
 use Rattle.nfs_worker.specs.Served.{IsServed}
 use Rattle.nfs_worker.proofs.Accounts.{grew_hold, grew_same}
+
+-- entries whose sizes fit have room
+entries_bounded : (list : List Entry) → 12 + sum_by entry_size list ≤ 8192 → 12 + sum_by entry_room list ≤ 8192
+entries_bounded list few = let same = sum_by-le-sum_by entry_room entry_size list (λ e. omega arith) in omega (arith, same, few)
 
 -- the bytes of a reply fit the room of its call
 pub reply_fits : (xid : ℕ) (c : Call) (r : Reply) (volume : ℕ) → has_row c ≡ true → HasForm c r → length (bytes_of xid r volume) ≤ longest_of c
@@ -47,6 +56,12 @@ reply_fits xid (call.Create dir name set) _ volume row form = absurd form
 reply_fits xid (call.Remove dir name) (reply.Refused status) volume row form = answer_fits xid (call.Remove dir name) (reply.Refused status) volume tt
 reply_fits xid (call.Remove dir name) reply.Done volume row form = answer_fits xid (call.Remove dir name) reply.Done volume tt
 reply_fits xid (call.Remove dir name) _ volume row form = absurd form
+reply_fits xid (call.Readlink file) (reply.Refused status) volume row form = answer_fits xid (call.Readlink file) (reply.Refused status) volume tt
+reply_fits xid (call.Readlink file) (reply.Text text) volume row form = answer_fits xid (call.Readlink file) (reply.Text text) volume form
+reply_fits xid (call.Readlink file) _ volume row form = absurd form
+reply_fits xid (call.Readdir dir cookie count) (reply.Refused status) volume row form = answer_fits xid (call.Readdir dir cookie count) (reply.Refused status) volume tt
+reply_fits xid (call.Readdir dir cookie count) (reply.Entries list end) volume row form = answer_fits xid (call.Readdir dir cookie count) (reply.Entries list end) volume (entries_bounded list form)
+reply_fits xid (call.Readdir dir cookie count) _ volume row form = absurd form
 reply_fits xid (call.Statfs file) (reply.Refused status) volume row form = answer_fits xid (call.Statfs file) (reply.Refused status) volume tt
 reply_fits xid (call.Statfs file) (reply.Space blocks free) volume row form = answer_fits xid (call.Statfs file) (reply.Space blocks free) volume tt
 reply_fits xid (call.Statfs file) _ volume row form = absurd form

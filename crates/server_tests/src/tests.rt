@@ -2,6 +2,7 @@
 
 mod calls;
 mod damages;
+mod reading;
 mod refusals;
 mod runs;
 mod several;

@@ -12,6 +12,8 @@ use crate::getattr::getattr;
 use crate::lookup::lookup;
 use crate::outcome::Outcome;
 use crate::read::read;
+use crate::readdir::readdir;
+use crate::readlink::readlink;
 use crate::remove::remove;
 use crate::setattr::setattr;
 use crate::statfs::statfs;
@@ -80,6 +82,10 @@ pub fn make_call<S: Stable>(
         Call::Lookup { dir, name } => lookup(store, *dir, name, cred, now),
         Call::Create { dir, name, set } => create(alloc, store, sets, *dir, name, set, cred, now),
         Call::Remove { dir, name } => remove(alloc, store, sets, *dir, name, cred, now),
+        Call::Readlink { file } => readlink(alloc, store, *file, cred, now),
+        Call::Readdir { dir, cookie, count } => {
+            readdir(alloc, store, *dir, *cookie, *count, cred, now)
+        }
         Call::Statfs { file } => statfs(store, sets, *file, cred, now),
         _ => unreachable!(),
     }

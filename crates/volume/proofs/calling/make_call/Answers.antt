@@ -20,3 +20,13 @@ pub returns-in-Statfs-clause-snapshot : goal.returns-in-Statfs-clause-snapshot
 returns-in-Statfs-clause-snapshot g c =
     let looked = c.statfs.ensures.looked in
     cost_looked g.S.Stable g.met.S.Stable.counted c.args.store.now c.statfs.new.store _ _ looked.later looked.snapshot
+
+pub returns-in-Readlink-clause-snapshot : goal.returns-in-Readlink-clause-snapshot
+returns-in-Readlink-clause-snapshot g c =
+    let looked = c.readlink.ensures.looked in
+    cost_looked g.S.Stable g.met.S.Stable.counted c.args.store.now c.readlink.new.store _ _ looked.later looked.snapshot
+
+pub returns-in-Readdir-clause-snapshot : goal.returns-in-Readdir-clause-snapshot
+returns-in-Readdir-clause-snapshot g c =
+    let looked = c.readdir.ensures.looked in
+    cost_looked g.S.Stable g.met.S.Stable.counted c.args.store.now c.readdir.new.store _ _ looked.later looked.snapshot

@@ -2,8 +2,8 @@ use Rattle.std.proofs.Common.{rules, arith, ◌≡◌, ◌+◌, ◌-◌, ◌*◌
 use Rattle.files_model.specs.Step.{most_read}
 use Rattle.plan_file.specs.Contents.{old_content}
 use Rattle.v7_map.specs.Stored.{sector_in, stored_content}
-use Rattle.volume.proofs.Reading.{part_stored, read_whole, read_more}
-use Rattle.volume.proofs.read.read_body.Goals as goal
+use Rattle.v7_contents.proofs.Bytes.{part_stored, read_whole, read_more}
+use Rattle.v7_contents.proofs.body.read_body.Goals as goal
 
 pub returns-then-offset-end-clause-read : goal.returns-then-offset-end-clause-read
 returns-then-offset-end-clause-read g c = λ tells whole at.
@@ -11,7 +11,7 @@ returns-then-offset-end-clause-read g c = λ tells whole at.
     let n = c.args.inode.now in
     let end : c.min-end.result ≡ min (c.args.offset + min c.args.count most_read) n.size = omega arith in
     let none : 0 ≡ c.min-end.result - c.args.offset = omega arith in
-    c.new.ensures ∙ c.in_ok-bytes.ensures.items
+    c.in_ok-bytes.ensures.items
     ∙ ap (λ m. take m (drop c.args.offset (stored_content image n))) none
     ∙ read_whole image n whole c.args.offset c.args.count c.min-end.result end
 
@@ -44,6 +44,6 @@ returns-clause-read g c = λ tells whole at.
     let n = c.args.inode.now in
     let end : c.min-end.result ≡ min (c.args.offset + min c.args.count most_read) n.size = omega arith in
     let all : min (512 * c.loop-index.index) c.min-end.result - c.args.offset ≡ c.min-end.result - c.args.offset = omega arith in
-    c.new-2.ensures ∙ c.loop-index.invariant.read tells whole at
+    c.loop-index.invariant.read tells whole at
     ∙ ap (λ m. take m (drop c.args.offset (stored_content image n))) all
     ∙ read_whole image n whole c.args.offset c.args.count c.min-end.result end

@@ -1,8 +1,8 @@
-// Why a part of a call isn't done.
-use stable::Failed;
+// Why a body wasn't read.
+use stable::{Failed, NoMemory};
 use std::alloc::AllocError;
 
-/// Why bytes weren't read. Nothing was changed.
+/// Why a body wasn't read. Nothing was changed.
 #[derive(Clone, Copy, PartialEq, Eq)]
 pub enum ReadFault {
     /// The device failed.
@@ -13,7 +13,7 @@ pub enum ReadFault {
 
 impl From<Failed> for ReadFault {
     ghost use Rattle.std.specs.Prelude.{◌≡◌};
-    ghost use Rattle.volume.specs.declared.fault.ReadFault.TheVariants as fault;
+    ghost use Rattle.v7_contents.specs.declared.fault.ReadFault.TheVariants as fault;
 
     ghost from_gives = { λ _ e. e ≡ fault.Failed };
 
@@ -24,11 +24,22 @@ impl From<Failed> for ReadFault {
 
 impl From<AllocError> for ReadFault {
     ghost use Rattle.std.specs.Prelude.{◌≡◌};
-    ghost use Rattle.volume.specs.declared.fault.ReadFault.TheVariants as fault;
+    ghost use Rattle.v7_contents.specs.declared.fault.ReadFault.TheVariants as fault;
 
     ghost from_gives = { λ _ e. e ≡ fault.NoMemory };
 
     fn from(_: AllocError) -> Self {
+        ReadFault::NoMemory
+    }
+}
+
+impl From<NoMemory> for ReadFault {
+    ghost use Rattle.std.specs.Prelude.{◌≡◌};
+    ghost use Rattle.v7_contents.specs.declared.fault.ReadFault.TheVariants as fault;
+
+    ghost from_gives = { λ _ e. e ≡ fault.NoMemory };
+
+    fn from(_: NoMemory) -> Self {
         ReadFault::NoMemory
     }
 }

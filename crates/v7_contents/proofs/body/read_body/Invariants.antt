@@ -3,7 +3,7 @@ use Rattle.std.specs.Prelude.{vec_len}
 use Rattle.stable.specs.Looked.{Looked}
 use Rattle.v7_map.specs.Image.{IsImage}
 use Rattle.v7_map.specs.Stored.{sector_in, stored_content}
-use Rattle.volume.proofs.read.read_body.Given as goal
+use Rattle.v7_contents.proofs.body.read_body.Given as goal
 
 abbrev pub invariant-loop-index : goal.invariant-loop-index
 invariant-loop-index g l =

@@ -1,0 +1,5 @@
+pub mod Bytes
+pub mod Stored
+pub mod Listed
+pub mod Answered
+pub mod Found
