@@ -1,9 +1,9 @@
 -- What a reading of all walked directories tells of their tests.
-use Rattle.std.proofs.Common.{◌≡◌, ◌≢◌, ℕ, ◌+◌, ◌-◌, ◌<◌, ◌≤◌, Bool, true, false, cond, not, ◌&&◌, ◌==◌, List, [], ◌∷◌, ◌++◌, length, get_or, drop, map, append-nil, refl, sym, ap, subst, ◌∙◌, arith, ⊎_elim, eq-eqb, None}
+use Rattle.std.proofs.Common.{◌≡◌, ◌≢◌, ℕ, ◌-◌, ◌<◌, ◌≤◌, Bool, true, false, cond, ◌&&◌, ◌==◌, List, [], ◌++◌, length, get_or, drop, map, append-nil, refl, sym, ap, subst, ◌∙◌, arith, ⊎_elim, eq-eqb, None}
 use Rattle.std.specs.Prelude.{set, count_by, replicate}
 use Rattle.std.specs.List.{range_with_len, flat_map}
 use Rattle.std.proofs.lemmas.Bool.{cases_eq, cases_lt, ne_eqb}
-use Rattle.std.proofs.lemmas.List.{get_or_past, get_or-set_same, get_or-set_other, get_or-replicate, length-replicate, drop_all}
+use Rattle.std.proofs.lemmas.List.{get_or_past, get_or-set_same, get_or-set_other, get_or-replicate, length-replicate}
 use Rattle.stable.specs.Store.{Image}
 use Rattle.v7_layout.specs.declared.slot.Slot.{Slot as Stored}
 use Rattle.files_model.specs.Files.{Slot}
@@ -14,7 +14,7 @@ use Rattle.v7_damage.specs.Marks.{mark_at}
 use Rattle.v7_damage.specs.Slots.{seen_slot, names}
 use Rattle.v7_damage.specs.Walk.{AreWalked, is_dir_in}
 use Rattle.v7_damage.specs.Names.{AreTypes, AreCounts, begins_with_dots, is_held, slots_until, tests_of_directories}
-use Rattle.v7_damage.specs.Tallied.{AreOnce, AreTallied, HasRead, HasTallyRoom, IsCovered, IsNoTally, is_good, slots_read}
+use Rattle.v7_damage.specs.Tallied.{AreTallied, HasRead, HasTallyRoom, IsCovered, IsNoTally, is_good, slots_read}
 use Rattle.v7_damage.specs.Tests.{first_failing}
 use Rattle.v7_damage.specs.declared.tally.Tally.{Tally}
 use Rattle.v7_damage.specs.declared.walk.Walks.{Walks}

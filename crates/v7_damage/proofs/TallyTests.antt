@@ -1,13 +1,13 @@
 -- The tests of the walked directories pass where these facts hold of all their slots.
-use Rattle.std.proofs.Common.{◌≡◌, ◌≢◌, ◌⊎◌, ℕ, suc, ◌+◌, ◌-◌, ◌<◌, ◌≤◌, Bool, true, false, cond, not, ◌&&◌, ◌||◌, List, [], ◌∷◌, ◌++◌, length, take, drop, get_or, refl, sym, ap, subst, ◌∙◌, arith, inl, inr, ⊎_elim, ltb, Some, None, eq-eqb, ◌==◌}
-use Rattle.std.proofs.lemmas.Bool.{cases_lt, cases_Bool, ne_eqb, lt-ltb, le-ltb, eqb-true}
+use Rattle.std.proofs.Common.{◌≡◌, ◌≢◌, ℕ, suc, ◌+◌, ◌-◌, ◌<◌, ◌≤◌, Bool, true, false, cond, not, ◌&&◌, ◌||◌, List, [], ◌∷◌, ◌++◌, length, take, drop, get_or, refl, sym, ap, subst, ◌∙◌, arith, inl, inr, ⊎_elim, ltb, Some, None, eq-eqb, ◌==◌}
+use Rattle.std.proofs.lemmas.Bool.{cases_lt, cases_Bool, ne_eqb, lt-ltb, le-ltb}
 use Rattle.std.proofs.lemmas.List.{drop-take, get_or-drop, length-drop}
 use Rattle.std.proofs.lemmas.List.Sums.{sum_by-append}
 use Rattle.std.specs.List.{range_with_len, list_any, flat_map, count_by}
 use Rattle.files_model.specs.Files.{Slot}
 use Rattle.v7_map.specs.Frame.{Frame}
-use Rattle.v7_map.specs.Tree.{Tree, tree, is_walked, seen_in, is_slot_of, is_child, number_in}
-use Rattle.v7_map.specs.Weak.{slot_at, parent}
+use Rattle.v7_map.specs.Tree.{Tree, tree, is_walked, seen_in, is_slot_of, number_in}
+use Rattle.v7_map.specs.Weak.{slot_at}
 use Rattle.v7_map.specs.Damage.{Test, Dots, Entry, passes, has_dots, has_entry, slot_tests, slots_before, directory_tests, is_some_slot, is_entry, is_nameless, is_only_child}
 use Rattle.v7_map.proofs.Frames.{and_left, and_right}
 use Rattle.v7_map.proofs.Members.{In, find_all, in_flat_map, in_range_of}

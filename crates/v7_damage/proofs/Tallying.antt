@@ -1,19 +1,18 @@
 -- What is kept of slots, slot by slot, in whatever order they are read.
-use Rattle.std.proofs.Common.{◌≡◌, ◌≢◌, ℕ, zero, suc, ◌+◌, ◌-◌, ◌<◌, ◌≤◌, Bool, true, false, cond, not, ◌&&◌, ◌==◌, List, [], ◌∷◌, ◌++◌, length, get_or, take, drop, map, append-nil, append_assoc, refl, sym, ap, subst, ◌∙◌, arith, ⊎_elim, eqb, eq-eqb, Some, None}
+use Rattle.std.proofs.Common.{◌≡◌, ◌≢◌, ℕ, zero, suc, ◌+◌, ◌<◌, ◌≤◌, Bool, true, false, cond, not, ◌&&◌, List, [], ◌∷◌, ◌++◌, length, get_or, take, drop, append_assoc, refl, sym, ap, subst, ◌∙◌, arith, ⊎_elim, eqb, eq-eqb, Some, None}
 use Rattle.std.specs.Prelude.{set, count_by}
-use Rattle.std.specs.List.{range_with_len, flat_map, take_while}
+use Rattle.std.specs.List.{range_with_len, flat_map}
 use Rattle.std.proofs.lemmas.Bool.{cases_eq, cases_lt, ne_eqb, lt-ltb, le-ltb}
-use Rattle.std.proofs.lemmas.List.{take_more, length-take-le, length-set, get_or-set_same, get_or-set_other, drop-append-le, drop_all}
+use Rattle.std.proofs.lemmas.List.{take_more, length-take-le, get_or-set_same, get_or-set_other, drop-append-le, drop_all}
 use Rattle.std.proofs.lemmas.List.Sums.{sum_by-append}
 use Rattle.v7_layout.specs.declared.slot.Slot.{Slot as Stored}
 use Rattle.files_model.specs.Files.{Slot}
 use Rattle.v7_map.specs.Frame.{Frame}
-use Rattle.v7_map.specs.Tree.{Tree, is_slot_of, number_in}
-use Rattle.v7_map.specs.Damage.{is_some_slot, is_nameless}
+use Rattle.v7_map.specs.Tree.{Tree, is_slot_of}
 use Rattle.v7_damage.specs.Marks.{mark_at}
 use Rattle.v7_damage.specs.Slots.{seen_slot}
 use Rattle.v7_damage.specs.Walk.{is_dir_in}
-use Rattle.v7_damage.specs.Names.{AreTypes, AreCounts}
+use Rattle.v7_damage.specs.Names.{AreTypes}
 use Rattle.v7_damage.specs.Tallied.{AreOnce, AreTallied, is_good, past_more, slots_read}
 use Rattle.v7_damage.proofs.Naming.{count_more, counts_empty, counts_more, seen-some, seen-none, has_name, used-by}
 

@@ -7,7 +7,7 @@ use Rattle.v7_map.specs.Weak.{slot_at}
 use Rattle.v7_map.specs.Tree.{Tree, tree, is_slot_of, is_child, number_in}
 use Rattle.v7_map.specs.Damage.{is_some_slot, is_nameless}
 use Rattle.v7_damage.specs.Marks.{mark_at}
-use Rattle.v7_damage.specs.Names.{AreTypes, AreCounts, begins_with_dots}
+use Rattle.v7_damage.specs.Names.{AreCounts, begins_with_dots}
 use Rattle.v7_damage.specs.Walk.{is_dir_in}
 use Rattle.v7_damage.specs.declared.tally.Tally.{Tally}
 use Rattle.v7_damage.specs.declared.walk.Walks.{Walks}

@@ -1,17 +1,14 @@
 // What one reading of the walked directories tells, in whatever order they are read.
 
 ghost use Rattle.std.specs.Prelude.{◌≡◌, ◌≢◌, ◌==◌, ◌<◌, ◌≤◌, ◌-◌, ℕ, List, length, map, true, get_or, None, IfOk, if◌then◌else◌};
-ghost use Rattle.v7_map.specs.Frame.{Frame};
+ghost use Rattle.v7_map.specs.Frame.{Frame, frame};
 ghost use Rattle.v7_map.specs.Tree.{tree};
 ghost use Rattle.stable.specs.Store.{Image};
-ghost use Rattle.v7_map.specs.Frame.{frame};
-ghost use Rattle.v7_damage.specs.Marks.{mark_at};
 ghost use Rattle.v7_damage.specs.Names.{AreCounts, AreTypes, slots_until, tests_of_directories};
 ghost use Rattle.v7_damage.specs.Slots.{names, seen_slot};
 ghost use Rattle.v7_damage.specs.Tallied.{HasRead, HasTally, HasTallyRoom, IsCovered, IsNoTally};
 ghost use Rattle.v7_damage.specs.Tests.{first_failing};
 ghost use Rattle.v7_damage.specs.Walk.{AreWalked};
-
 
 use crate::marks::Marks;
 use crate::names::{Kept, test_slots};

@@ -138,8 +138,9 @@ pub struct Undamaged {
 }
 
 /// Makes the tests of a volume in their order (docs/FORMATS.md, damage). `Damaged` tells the first that fails, by its sector and its kind, exactly
-/// where one does. It reads each sector of the i-list and each indirect block once, and each sector of a walked directory twice; where these are more
-/// than 200,000, the inodes and indirect blocks of the directories past them again before each of the two. Nothing is changed.
+/// where one does. It reads each sector of the i-list and each indirect block once, and each sector of a walked directory once, or twice where a test
+/// fails; where the directories have more than 150,000 sectors, the inodes and indirect blocks of those past them again before each reading. Nothing
+/// is changed.
 pub fn find_damage<S: Stable>(alloc: Global, store: &mut S) -> Result<Undamaged, RepairFault>
     ensures tested { S.tells → IsTested (S.image store.old) result }
     ensures tables { IfOk result (HasEntries (S.sector_count store.old)) }

@@ -1,7 +1,6 @@
-use Rattle.std.proofs.Common.{rules, arith, ◌≡◌, ◌<◌, ◌≤◌, ◌∙◌, ℕ, true, length, sym, subst, ⊎_elim}
+use Rattle.std.proofs.Common.{rules, arith, ◌≡◌, ◌<◌, ◌≤◌, ◌∙◌, true, sym, subst, ⊎_elim}
 use Rattle.std.proofs.lemmas.Bool.{cases_lt}
-use Rattle.v7_map.specs.Frame.{frame}
-use Rattle.v7_damage.specs.Tallied.{HasRead, IsCovered}
+use Rattle.v7_damage.specs.Tallied.{IsCovered}
 use Rattle.v7_damage.proofs.TallyEnd.{all_counted, all_passed}
 use Rattle.v7_damage.proofs.tally.all_pass.Goals as goal
 

@@ -1,7 +1,6 @@
-use Rattle.std.proofs.Common.{rules, arith, ◌≡◌, ◌<◌, ◌∙◌, ◌-◌, ℕ, List, true, false, None, map, take, drop, min, length, get_or, sym, ap}
+use Rattle.std.proofs.Common.{rules, arith, ◌≡◌, ◌∙◌, ◌-◌, ℕ, List, true, false, None, take, drop, min, length, sym, ap}
 use Rattle.std.proofs.lemmas.List.{drop_min, take_rest, length-map}
 use Rattle.v7_layout.specs.declared.slot.Slot.{Slot}
-use Rattle.v7_map.specs.Frame.{Frame}
 use Rattle.v7_map.specs.Tree.{tree}
 use Rattle.v7_damage.specs.Marks.{mark_at}
 use Rattle.v7_damage.specs.Names.{begins_with_dots}

@@ -1,4 +1,4 @@
-use Rattle.std.proofs.Common.{rules, arith, ◌≡◌, ◌≢◌, ◌<◌, ◌+◌, ◌||◌, ◌==◌, ◌∙◌, Bool, ℕ, [], true, false, cond, take, length, ap, sym, get_or, ⊎_elim, eq-eqb}
+use Rattle.std.proofs.Common.{rules, arith, ◌≡◌, ◌≢◌, ◌||◌, ◌==◌, ◌∙◌, Bool, ℕ, [], true, false, cond, take, ap, sym, get_or, ⊎_elim, eq-eqb}
 use Rattle.std.proofs.lemmas.Bool.{cases_eq, ne_eqb}
 use Rattle.v7_damage.specs.Slots.{names}
 use Rattle.v7_damage.proofs.Walking.{names_more, names_none}

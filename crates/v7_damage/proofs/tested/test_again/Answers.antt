@@ -1,8 +1,8 @@
-use Rattle.std.proofs.Common.{◌≡◌, ◌-◌, ℕ, List, length, sym, subst}
+use Rattle.std.proofs.Common.{◌-◌, length}
 use Rattle.stable.specs.Store.{Image}
 use Rattle.v7_map.specs.Frame.{frame}
 use Rattle.v7_map.specs.Tree.{tree}
-use Rattle.v7_damage.specs.Names.{HasNoted, tests_of_directories}
+use Rattle.v7_damage.specs.Names.{tests_of_directories}
 use Rattle.v7_damage.proofs.DirectoryTests.{told_nothing}
 use Rattle.v7_damage.proofs.tested.test_again.Goals as goal
 

@@ -1,4 +1,4 @@
-use Rattle.std.proofs.Common.{rules, ◌≡◌, ℕ, List, length, sym}
+use Rattle.std.proofs.Common.{rules, ℕ, List, sym}
 use Rattle.stable.specs.Store.{Image}
 use Rattle.v7_map.specs.Frame.{frame}
 use Rattle.v7_map.specs.Tree.{tree}

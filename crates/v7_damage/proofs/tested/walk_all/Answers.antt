@@ -1,4 +1,4 @@
-use Rattle.std.proofs.Common.{◌≡◌, ℕ, List, sym, subst}
+use Rattle.std.proofs.Common.{ℕ, List, sym, subst}
 use Rattle.stable.specs.Store.{Image}
 use Rattle.v7_map.specs.Frame.{Frame, frame}
 use Rattle.v7_damage.specs.Names.{AreTypes}
