@@ -22,7 +22,7 @@ map-drop f (suc n) [] = refl
 map-drop f (suc n) (x ∷ xs) = map-drop f n xs
 
 -- the slots past the first two name the children
-child-seen : (t : Tree) (d : ℕ) (slots past : List Stored) → map seen_slot slots ≡ t.slots d → past ≡ drop 2 slots → (i : ℕ) → names past i ≡ is_child t d i
+pub child-seen : (t : Tree) (d : ℕ) (slots past : List Stored) → map seen_slot slots ≡ t.slots d → past ≡ drop 2 slots → (i : ℕ) → names past i ≡ is_child t d i
 unfolding names
 child-seen t d slots past are is i = ap (λ l. list_any (is_slot_of i) (map seen_slot l)) is ∙ ap (list_any (is_slot_of i)) (map-drop seen_slot 2 slots ∙ ap (drop 2) are)
 

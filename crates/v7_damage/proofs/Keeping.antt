@@ -16,7 +16,7 @@ module _ (old new : Bodies) (count : ℕ) (at : ℕ → ℕ) (summary : Summary)
   before i lt = ap (λ l. get_or l i 0) starts ∙ get_or_append_left old.starts.items (start ∷ []) 0 i lt
 
   -- there was no room for its blocks
-  pub next_left : start ≡ 4294967295 → new.blocks.items ≡ old.blocks.items → length old.blocks.items ≤ 200000 → IsNext old new count at summary
+  pub next_left : start ≡ 4294967295 → new.blocks.items ≡ old.blocks.items → length old.blocks.items ≤ 150000 → IsNext old new count at summary
   next_left none blocks few = record {
     summaries = summaries;
     slots = slots;
@@ -30,7 +30,7 @@ module _ (old new : Bodies) (count : ℕ) (at : ℕ → ℕ) (summary : Summary)
   }
 
   -- they are kept
-  pub next_kept : start ≡ length old.blocks.items → new.blocks.items ≡ old.blocks.items ++ map at (range_with_len 0 ((count + 31) / 32)) → length old.blocks.items + (count + 31) / 32 ≤ 200000 → IsNext old new count at summary
+  pub next_kept : start ≡ length old.blocks.items → new.blocks.items ≡ old.blocks.items ++ map at (range_with_len 0 ((count + 31) / 32)) → length old.blocks.items + (count + 31) / 32 ≤ 150000 → IsNext old new count at summary
   next_kept from blocks few =
       let longer : length new.blocks.items ≡ length old.blocks.items + (count + 31) / 32 =
       ap length blocks ∙ length-append old.blocks.items (map at (range_with_len 0 ((count + 31) / 32))) ∙ ap (λ m. length old.blocks.items + m) (length-map-range_with_len at 0 ((count + 31) / 32)) in

@@ -15,6 +15,9 @@ pub mod HeldSteps
 pub mod DirectoryTests
 pub mod Supers
 pub mod Passed
+pub mod Tallying
+pub mod TallyTests
+pub mod TallyEnd
 pub mod Noting
 pub mod Deciding
 pub mod Knowing

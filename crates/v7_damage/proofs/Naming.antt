@@ -78,7 +78,7 @@ named_more types named slots ino name lt was = record {
 
 -- ---- counts
 
-count_more : (i : ℕ) (slots : List Slot) (s : Slot) → count_by (is_slot_of i) (slots ++ s ∷ []) ≡ count_by (is_slot_of i) slots + cond (is_slot_of i s) 1 0
+pub count_more : (i : ℕ) (slots : List Slot) (s : Slot) → count_by (is_slot_of i) (slots ++ s ∷ []) ≡ count_by (is_slot_of i) slots + cond (is_slot_of i s) 1 0
 count_more i slots s = sum_by-append (λ y. cond (is_slot_of i y) 1 0) slots (s ∷ []) ∙ (let e : 0 + cond (is_slot_of i s) 1 0 ≡ cond (is_slot_of i s) 1 0 = omega arith in ap (λ n. count_by (is_slot_of i) slots + n) e)
 
 pub counts_empty : (counts : List ℕ) (slots : List Slot) → AreCounts counts slots → AreCounts counts (slots ++ None ∷ [])

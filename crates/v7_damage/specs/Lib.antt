@@ -8,4 +8,5 @@ pub mod Walk
 pub mod Names
 pub mod Listed
 pub mod Noted
+pub mod Tallied
 pub mod Undamaged

@@ -56,7 +56,7 @@ pub record HasTables (n : ℕ) (types : List ℕ) (bodies : Bodies) : Type 0 whe
   pub summaries : length bodies.summaries.items ≡ n
   pub slots : length bodies.slots.items ≡ n
   pub starts : length bodies.starts.items ≡ n
-  pub blocks : length bodies.blocks.items ≤ 200000
+  pub blocks : length bodies.blocks.items ≤ 150000
 
 -- the tables have one inode more, with this summary and so many slots, whose sectors stand at these blocks; where the blocks aren't kept, no start is said
 pub record IsNext (old new : Bodies) (count : ℕ) (at : ℕ → ℕ) (summary : Summary) : Type 0 where
@@ -65,7 +65,7 @@ pub record IsNext (old new : Bodies) (count : ℕ) (at : ℕ → ℕ) (summary :
   pub starts : length new.starts.items ≡ length old.starts.items + 1
   pub starts_before : (i : ℕ) → i < length old.starts.items → start_kept new i ≡ start_kept old i
   pub longer : length old.blocks.items ≤ length new.blocks.items
-  pub few : length new.blocks.items ≤ 200000
+  pub few : length new.blocks.items ≤ 150000
   pub blocks_before : (k : ℕ) → k < length old.blocks.items → get_or new.blocks.items k 0 ≡ get_or old.blocks.items k 0
   pub within : start_kept new (length old.starts.items) ≢ 4294967295 → start_kept new (length old.starts.items) + (count + 31) / 32 ≤ length new.blocks.items
   pub here : start_kept new (length old.starts.items) ≢ 4294967295 → (k : ℕ) → k < (count + 31) / 32 → block_kept new (length old.starts.items) k ≡ at k

@@ -23,13 +23,13 @@ const DIRECTORY: u16 = 4;
 const SIZE_LIMIT: u32 = 70_656;
 
 /// How many sectors of directories are kept at most.
-const MOST_KEPT: usize = 200_000;
+const MOST_KEPT: usize = 150_000;
 
 /// Where the blocks of a directory begin that aren't kept.
 const NOT_KEPT: u32 = 4_294_967_295;
 
 /// A summary of each inode, and where the slots of directories stand, by i-number, so that they are read again without their inodes and blocks of
-/// addresses. It takes ten bytes an inode and four a sector of a directory, of 200,000 at most: the directories that have no room are found by
+/// addresses. It takes ten bytes an inode and four a sector of a directory, of 150,000 at most: the directories that have no room are found by
 /// their inodes again.
 #[derive(Drop)]
 pub(crate) struct Bodies {
@@ -87,7 +87,7 @@ pub(crate) fn keep_body(
     inode: &Inode,
     places: &[u32; 140],
 ) -> Result<(), NoMemory>
-    requires { length bodies.old.blocks.items ≤ 200000 }
+    requires { length bodies.old.blocks.items ≤ 150000 }
     ensures { OnOk result (IsNext bodies.old bodies.new (slots_kept inode.now) (body_at places.now) (summary_by inode.now places.now)) }
 {
     let count = slots_of(inode);
@@ -107,7 +107,7 @@ pub(crate) fn keep_body(
 
 /// Puts a free inode at the end of the tables.
 pub(crate) fn keep_none(bodies: &mut Bodies) -> Result<(), NoMemory>
-    requires { length bodies.old.blocks.items ≤ 200000 }
+    requires { length bodies.old.blocks.items ≤ 150000 }
     ensures { (at : ℕ → ℕ) → OnOk result (IsNext bodies.old bodies.new 0 at no_summary) }
 {
     bodies.summaries.push(no_summary())?;

@@ -14,6 +14,7 @@ mod places;
 mod reader;
 mod slots;
 mod summary;
+mod tally;
 mod tested;
 mod tidy;
 mod walk;

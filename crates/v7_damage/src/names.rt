@@ -1,6 +1,7 @@
 // The tests of the slots of a directory.
 
-ghost use Rattle.std.specs.Prelude.{◌≡◌, ◌<◌, ◌≤◌, ℕ, ◌+◌, length, map, true, List, Some, None, IfSome};
+ghost use Rattle.std.specs.Prelude.{◌≡◌, ◌<◌, ◌≤◌, ℕ, ◌+◌, ◌++◌, ◌∷◌, [], length, map, drop, get_or, true, List, Some, None, IfSome};
+ghost use Rattle.files_model.specs.Files.{Slot as Seen};
 ghost use Rattle.std.specs.Option.{option_map};
 ghost use Rattle.v7_map.specs.Frame.{Frame};
 ghost use Rattle.v7_map.specs.Weak.{slot_at};
@@ -10,6 +11,7 @@ ghost use Rattle.v7_damage.specs.Names.{AreTypes, AreNamed, HasKept, HasTested, 
 ghost use Rattle.v7_damage.specs.Tests.{first_failing};
 ghost use Rattle.v7_damage.specs.Slots.{seen_slot};
 ghost use Rattle.v7_damage.specs.Tables.{AreSectors};
+ghost use Rattle.v7_damage.specs.Tallied.{AreOnce, AreTallied, is_good, past_more};
 
 use crate::bodies::{Bodies, Sectors, block_of};
 use crate::marks::Marks;
@@ -51,6 +53,7 @@ fn take_child(ino: u16, index: usize, types: &[u8], kept: &mut Kept) -> bool
     ensures only { (f : Frame) (d : ℕ) → AreTypes f types.now → AreNamed types.now kept.old.named (slots_until (tree f) 2 d index) → result ≡ is_only_child (tree f) d index ino }
     ensures kept { (f : Frame) (d : ℕ) (name : List ℕ) → AreNamed types.now kept.old.named (slots_until (tree f) 2 d index) → index < length (f.slots d) → slot_at (tree f) d index ≡ Some (ino, name)
         → result ≡ true → AreNamed types.now kept.new.named (slots_until (tree f) 2 d (index + 1)) }
+    ensures once { (name : List ℕ) (past : List Seen) → AreOnce types.now kept.old.named past → result ≡ true → AreOnce types.now kept.new.named (past_more index past (Some (ino, name))) }
     ensures length { length kept.new.named ≡ length kept.old.named }
     ensures counts { kept.new.counts.items ≡ kept.old.counts.items }
     ensures wrong { kept.new.wrong ≡ kept.old.wrong }
@@ -78,6 +81,9 @@ fn test_slot(slot: &Slot, index: usize, types: &[u8], kept: &mut Kept) -> bool
     ensures passes { (f : Frame) (d : ℕ) → HasKept f types.now kept.old.counts.items kept.old.named d index → slot_at (tree f) d index ≡ seen_slot slot.now → result ≡ slot_passes f d index }
     ensures kept { (f : Frame) (d : ℕ) → HasKept f types.now kept.old.counts.items kept.old.named d index → slot_at (tree f) d index ≡ seen_slot slot.now → index < length (f.slots d)
         → result ≡ true → HasKept f types.now kept.new.counts.items kept.new.named d (index + 1) }
+    ensures good { (f : Frame) → AreTypes f types.now → result ≡ true → is_good f (seen_slot slot.now) ≡ true }
+    ensures tallied { (all past : List Seen) → AreTallied types.now kept.old.counts.items kept.old.named all past → result ≡ true
+        → AreTallied types.now kept.new.counts.items kept.new.named (all ++ seen_slot slot.now ∷ []) (past_more index past (seen_slot slot.now)) }
     ensures counts { length kept.new.counts.items ≡ length kept.old.counts.items }
     ensures named { length kept.new.named ≡ length kept.old.named }
     ensures wrong { kept.new.wrong ≡ kept.old.wrong }
@@ -107,13 +113,16 @@ fn test_slot(slot: &Slot, index: usize, types: &[u8], kept: &mut Kept) -> bool
 }
 
 // The first slot of a directory that fails its test. Those before it are counted from then on.
-fn test_slots(slots: &[Slot], types: &[u8], kept: &mut Kept) -> Option<usize>
+pub(crate) fn test_slots(slots: &[Slot], types: &[u8], kept: &mut Kept) -> Option<usize>
     requires counts { length kept.old.counts.items ≡ length types.now }
     requires named { length kept.old.named ≡ length types.now }
     ensures told { (f : Frame) (d : ℕ) → HasKept f types.now kept.old.counts.items kept.old.named d 0 → map seen_slot slots.now ≡ f.slots d
         → first_failing f (tests_of_slots (tree f) d 0 (length slots.now)) ≡ option_map (λ k. Entry d k) result }
     ensures kept { (f : Frame) (d : ℕ) → HasKept f types.now kept.old.counts.items kept.old.named d 0 → map seen_slot slots.now ≡ f.slots d
         → result ≡ None → HasKept f types.now kept.new.counts.items kept.new.named d (length slots.now) }
+    ensures good { (f : Frame) → AreTypes f types.now → result ≡ None → (k : ℕ) → k < length slots.now → is_good f (get_or (map seen_slot slots.now) k None) ≡ true }
+    ensures tallied { (all past : List Seen) → AreTallied types.now kept.old.counts.items kept.old.named all past → result ≡ None
+        → AreTallied types.now kept.new.counts.items kept.new.named (all ++ map seen_slot slots.now) (past ++ drop 2 (map seen_slot slots.now)) }
     ensures within { IfSome result (λ k. k < length slots.now) }
     ensures counts { length kept.new.counts.items ≡ length kept.old.counts.items }
     ensures named { length kept.new.named ≡ length kept.old.named }

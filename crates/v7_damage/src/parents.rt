@@ -61,7 +61,7 @@ fn is_dot_dot(slot: &Slot) -> bool
 }
 
 // Whether a directory begins with `.` and `..`.
-fn begins_with_dots(ino: u16, slots: &[Slot]) -> bool
+pub(crate) fn begins_with_dots(ino: u16, slots: &[Slot]) -> bool
     requires { 1 ≤ ino }
     ensures { (t : Tree) → map seen_slot slots.now ≡ t.slots ino → result ≡ begins_with_dots t ino }
 {

@@ -10,7 +10,9 @@ ghost use Rattle.v7_map.specs.Weak.{parent};
 ghost use Rattle.v7_damage.specs.Marks.{mark_at};
 ghost use Rattle.v7_damage.specs.Slots.{names, seen_slot};
 ghost use Rattle.v7_damage.specs.Walk.{AreListed, AreWalked, CanWalk, is_dir_in};
+ghost use Rattle.v7_damage.specs.Names.{AreTypes};
 ghost use Rattle.v7_damage.specs.Tables.{HasTables};
+ghost use Rattle.v7_damage.specs.Tallied.{HasTally, HasTallyRoom};
 ghost use Rattle.v7_damage.specs.Tests.{NotDamaged};
 ghost use Rattle.v7_damage.specs.declared.damage.RepairFault.TheVariants as fault;
 
@@ -18,6 +20,7 @@ use crate::bodies::Bodies;
 use crate::damage::RepairFault;
 use crate::marks::Marks;
 use crate::slots::read_directory;
+use crate::tally::{Tally, note_read};
 use stable::{NoMemory, Stable};
 use std::alloc::Global;
 use v7_layout::Slot;
@@ -90,20 +93,24 @@ fn up_of(slots: &[Slot]) -> u16
     slots[1].ino
 }
 
-/// A mark for each directory that is walked: the root, and those that a slot of a walked one names. Where `..` of each leads is put into `ups`. Each
-/// is read once. Nothing is changed.
+/// A mark for each directory that is walked: the root, and those that a slot of a walked one names. Where `..` of each leads is put into `ups`, and
+/// each is noted in `tally`. Each is read once. Nothing is changed.
 pub(crate) fn walk<S: Stable>(
     alloc: Global,
     store: &mut S,
     types: &[u8],
     bodies: &Bodies,
     ups: &mut Vec<u16>,
+    tally: &mut Tally,
 ) -> Result<Marks, RepairFault>
     requires tables { HasTables (length types.now) types.now bodies.now }
     requires few { length types.now ≤ 65536 }
     requires stand { (i : ℕ) → i < length types.now → inode_sector i < S.sector_count store.old }
     requires ups { length ups.old.items ≡ length types.now }
+    requires room { HasTallyRoom (length types.now) tally.old }
     ensures walked { S.tells → CanWalk (S.image store.old) types.now bodies.now → IfOk result (λ found. AreWalked (tree (frame (S.image store.old))) found ups.new.items) }
+    ensures tally { S.tells → AreTypes (frame (S.image store.old)) types.now → CanWalk (S.image store.old) types.now bodies.now → HasTally (frame (S.image store.old)) types.now tally.old → HasTally (frame (S.image store.old)) types.now tally.new }
+    ensures room { HasTallyRoom (length types.now) tally.new }
     ensures ups_length { length ups.new.items ≡ length ups.old.items }
     ensures length { IfOk result (λ found. length found ≡ length types.now) }
     ensures undamaged { NotDamaged result }
@@ -120,6 +127,7 @@ pub(crate) fn walk<S: Stable>(
         let _sectors = read_directory(store, bodies, ino, &mut slots)?;
         find_named(&slots, types, &mut found, &mut list)?;
         ups[ino as usize] = up_of(&slots);
+        note_read(tally, ino, &slots, types);
         next += 1;
     }
     Ok(found)

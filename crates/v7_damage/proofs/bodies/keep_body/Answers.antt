@@ -24,4 +24,4 @@ returns c =
     let i = c.loop-index.invariant in
     next_kept c.args.bodies.now c.loop-index.bodies (slots_kept c.args.inode.now) (body_at c.args.places.now) (summary_by c.args.inode.now c.args.places.now) i.summaries i.slots (length c.args.bodies.now.blocks.items) i.starts
     refl (i.blocks ∙ ap (λ n. c.args.bodies.now.blocks.items ++ map (body_at c.args.places.now) (range_with_len 0 n)) end)
-    (let sectors : c.div_ceil-sectors.result ≡ (slots_kept c.args.inode.now + 31) / 32 = search rules in let room : length c.args.bodies.now.blocks.items + c.div_ceil-sectors.result ≤ 200000 = search rules in omega (arith, sectors, room))
+    (let sectors : c.div_ceil-sectors.result ≡ (slots_kept c.args.inode.now + 31) / 32 = search rules in let room : length c.args.bodies.now.blocks.items + c.div_ceil-sectors.result ≤ 150000 = search rules in omega (arith, sectors, room))

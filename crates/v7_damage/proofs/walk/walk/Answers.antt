@@ -1,4 +1,4 @@
-use Rattle.std.proofs.Common.{rules, arith, ◌≡◌, ◌<◌, ◌∙◌, ◌||◌, ◌&&◌, ℕ, List, true, false, length, get_or, map, sym, ap, subst}
+use Rattle.std.proofs.Common.{rules, arith, ◌≡◌, ◌≢◌, ◌==◌, ◌<◌, ◌∙◌, ◌||◌, ◌&&◌, ℕ, List, true, false, length, get_or, map, sym, ap, subst}
 use Rattle.stable.specs.Store.{Image}
 use Rattle.stable.proofs.Looking.{no_look, looks_again}
 use Rattle.v7_map.specs.Image.{inode_sector}
@@ -13,7 +13,7 @@ use Rattle.v7_map.proofs.Used.{walked_is_dir}
 use Rattle.v7_damage.specs.Tables.{CanRead}
 use Rattle.v7_damage.specs.Slots.{seen_slot, names}
 use Rattle.v7_damage.specs.Walk.{CanWalk, is_dir_in}
-use Rattle.v7_damage.proofs.WalkSteps.{listed_none, listed-within, among-at, kept_more, reached_more, closed_more, first_marked, first_reached, end_walked, dir-numbers, ups_more, ups_walked}
+use Rattle.v7_damage.proofs.WalkSteps.{listed_none, listed-within, among-at, kept_more, reached_more, closed_more, first_marked, first_reached, end_walked, dir-numbers, ups_more, ups_walked, no-marks}
 use Rattle.v7_damage.proofs.walk.walk.Goals as goal
 
 pub walking-init : goal.walking-init
@@ -31,6 +31,11 @@ walking-init g c =
       reached = λ tells can. first_reached t (dir-numbers image) c.args.types.now can.types_are c.in_ok-found.found c.find_one.new.found n (search rules) c.in_ok-find_one.ensures.marks;
       closed = λ tells can k i lt. absurd (omega arith);
       ups = λ tells can k lt. absurd (omega arith);
+      none = c.in_ok-find_one.ensures.marks 0 ∙ (let old : mark_at c.in_ok-found.found 0 ≡ false = ap (λ m. mark_at m 0) none ∙ no-marks n 0 in
+          let file : is_dir_in c.args.types.now 0 ≡ false = ap (λ t. t == 4) c.requires.tables.none in
+          (λ z. old z || (file z && (2 == 0))));
+      tally = λ tells are can was. was;
+      room = c.requires.room;
       ups_long = search rules;
       looked = no_look S g.met.S.Stable.clocked c.args.store.now;
     }
@@ -72,6 +77,9 @@ walking-preserved g c =
           (slots tells can) is lt c.in_ok-find_named.ensures.front (i.closed tells can);
       ups = λ tells can. ups_more t c.walking.ups.items c.walking.list.items c.find_named.new.list.items n d c.up_of.result (let l = i.ups_long in let r = c.requires.ups in let b = listed-within c.walking.found c.walking.list.items n i.listed lt in let long = i.long in omega arith) is lt
           c.in_ok-find_named.ensures.front (c.up_of.ensures t d (ap (map seen_slot) c.deref-in-walking.ensures.value ∙ slots tells can)) (i.ups tells can);
+      none = (let file : is_dir_in c.args.types.now 0 ≡ false = ap (λ t. t == 4) c.requires.tables.none in named 0 ∙ (λ z. i.none z || (file z && names c.read_directory.new.slots.items 0)));
+      tally = λ tells are can was. c.note_read.ensures.read (frame image) are (ap (map seen_slot) c.deref-in-walking-2.ensures.value ∙ slots tells can) (i.tally tells are can was);
+      room = c.note_read.ensures.room;
       ups_long = search rules;
       looked = looks_again S g.met.S.Stable.clocked i.looked c.in_ok-_sectors.ensures.looked;
     }
@@ -93,3 +101,14 @@ index_mut-requires g c =
     let long = i.long in let ups = i.ups_long in let all = c.requires.ups in
     let below : c.index-ino.result.now < length c.walking.ups.items = omega arith in
     search rules
+
+pub note_read-requires : goal.note_read-requires
+note_read-requires g c =
+    let i = c.walking.invariant in
+    let d : ℕ = c.index-ino.result.now in
+    let lt : c.walking.next < length c.walking.list.items = search rules in
+    let is : d ≡ get_or c.walking.list.items c.walking.next 0 = get_or_read c.walking.list.items c.walking.next _ lt c.index-ino.ensures 0 in
+    let within : get_or c.walking.list.items c.walking.next 0 < length c.walking.found = listed-within c.walking.found c.walking.list.items c.walking.next i.listed lt in
+    let marked : mark_at c.walking.found d ≡ true = i.listed.each d ∙ ap (is_among c.walking.list.items) is ∙ among-at c.walking.list.items c.walking.next lt in
+    let some : d ≢ 0 = (λ z. let no : mark_at c.walking.found d ≡ false = ap (mark_at c.walking.found) z ∙ i.none in let clash : true ≡ false = sym marked ∙ no in absurd (cc)) in
+    record { some = omega (arith, some); within = omega (arith, is, within, i.long); room = i.room }
