@@ -312,7 +312,8 @@ answers_with() {
 }
 
 # send_write XID OFFSET HEX: sends the WRITE, and checks every word of its reply.
-# The two seconds in it, of the last change of bytes and of attributes, are the clock's; `second` keeps them.
+# The two seconds in it, of the last change of bytes and of attributes, are the clock's, which the server asks before it waits for a call; `second`
+# keeps them.
 send_write() {
     local before after
     write_call "$1" "$2" "$3" >"$folder/call"
@@ -321,7 +322,7 @@ send_write() {
     after=$(date +%s)
     second=${reply:160:8}
     answers_with "$1" "$second" ""
-    if [ $((16#$second)) -lt "$before" ] || [ $((16#$second)) -gt "$after" ]; then
+    if [ $((16#$second)) -lt $((before - 1)) ] || [ $((16#$second)) -gt "$after" ]; then
         fail "the second in the reply is not the clock's"
     fi
 }

@@ -1,7 +1,7 @@
-"""Random calls on a tree of files, as tree.py makes them, of which the last is under way when the server is killed; then what the volume may be.
+"""Random calls on a tree of files, as tree.py makes them, of which the last is under way, or just answered, when the server is killed; then what the volume may be.
 
 killed.py PORT SEED CALLS MODEL PID CALL ..: goes on from the model that tree.py kept, makes so many calls of these kinds and one more, and kills the
-server, the process PID, at once or some milliseconds later. It keeps what the volume may be then.
+server, the process PID, at once or up to a fifth of a second later. It keeps what the volume may be then.
 killed.py PORT SEED settle MODEL CALL ..: finds which of these the volume is, compares it whole, and keeps that as the model.
 """
 
@@ -14,7 +14,7 @@ import time
 
 import tree
 
-PAUSES = [0, 0.0002, 0.0005, 0.001, 0.002, 0.004, 0.008, 0.02]
+PAUSES = [0, 0.0005, 0.001, 0.002, 0.004, 0.008, 0.02, 0.2]
 CHANGES = ["setattr", "write", "create", "remove"]
 ROOT_USER = (0, (0,))
 
@@ -49,7 +49,7 @@ def cut(client, model, chooser, pid):
     while kind not in CHANGES:
         kind, cred, arguments = chooser.next(model)
     reply, before, after = send_and_kill(client, chooser.chance, pid, cred, kind, arguments)
-    afters = [after_call(model, kind, now, cred, arguments) for now in range(before, after + 1)]
+    afters = [after_call(model, kind, now, cred, arguments) for now in range(before - 1, after + 1)]
     if reply is not None:
         afters = [(wanted, trial) for wanted, trial in afters if wanted == reply]
         if not afters:
@@ -125,7 +125,7 @@ def probe(client, model, kept):
     root = (2, model.generation(2))
     reply, before, after = client.call(ROOT_USER, "create", [root, name, unset])
     for candidate in (model, raised):
-        for now in range(before, after + 1):
+        for now in range(before - 1, after + 1):
             wanted, trial = after_call(candidate, "create", now, ROOT_USER, [root, name, unset])
             if wanted == reply:
                 return tree.check(client, trial, "remove", ROOT_USER, [root, name])

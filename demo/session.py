@@ -94,11 +94,11 @@ class Client:
 
 
 def second_in(reply, before, after):
-    """The second of a change, from the reply's ctime, which has to be the clock's."""
+    """The second of a change, from the reply's ctime, which has to be the clock's: a server asks its clock, and then waits for a call."""
     if reply[:4] != bytes(4):
         return after
     (second,) = struct.unpack_from(">I", reply, 4 + 15 * 4)
-    if not before <= second <= after:
+    if not before - 1 <= second <= after:
         raise SystemExit(f"the second {second} isn't the clock's, {before} to {after}")
     return second
 

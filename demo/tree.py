@@ -482,10 +482,11 @@ def expected(model, kind, now, cred, arguments):
 
 
 def check(client, model, kind, cred, arguments):
-    """Makes the call. The second of a change is one of those in which it was under way."""
+    """Makes the call. The second of a change is one of those in which it was under way, or the one before: a server asks its clock, and then waits
+    for a call."""
     reply, before, after = client.call(cred, kind, arguments)
     wanted = b""
-    for now in range(before, after + 1):
+    for now in range(before - 1, after + 1):
         trial = pickle.loads(pickle.dumps(model))
         wanted = expected(trial, kind, now, cred, arguments)
         if reply == wanted and agrees(client, trial, kind, arguments):
@@ -622,5 +623,7 @@ def main(port, seed, calls, kept, inodes, blocks, kinds):
 
 
 if __name__ == "__main__":
+    import tree  # so that a kept model can be read by other programs too
+
     words = sys.argv[1:]
-    main(int(words[0]), int(words[1]), int(words[2]), words[3], int(words[4]), int(words[5]), words[6:] or list(NUMBERS))
+    tree.main(int(words[0]), int(words[1]), int(words[2]), words[3], int(words[4]), int(words[5]), words[6:] or list(NUMBERS))

@@ -25,14 +25,14 @@ enum Change {
 }
 
 // The call, which is answered by IO.
-const CREATE_FAILS: [Row; 1] = [(CREATE, ROOT, &[&X, &UNSET], &[&[5]])];
+const CREATE_FAILS: Row = (CREATE, ROOT, &[&X, &UNSET], &[&[5]]);
 
-const REMOVE_FAILS: [Row; 1] = [(REMOVE, ROOT, &[&F], &[&[5]])];
+const REMOVE_FAILS: Row = (REMOVE, ROOT, &[&F], &[&[5]]);
 
 fn failing(change: Change) -> Row {
     match change {
-        Change::Create => CREATE_FAILS[0],
-        Change::Remove => REMOVE_FAILS[0],
+        Change::Create => CREATE_FAILS,
+        Change::Remove => REMOVE_FAILS,
     }
 }
 
