@@ -25,11 +25,11 @@ use Rattle.v7_space.proofs.Space.{free_blocks-counted, held-block, map_there, is
 use Rattle.v7_map.proofs.Standing.{live-standing, attr_of-stored, node-is}
 use Rattle.v7_map.proofs.Walks.{and_both}
 use Rattle.plan_file.specs.declared.draft.Draft.{Draft}
-use Rattle.v7_map.specs.declared.found.Found.{Found}
+use Rattle.v7_read.specs.declared.found.Found.{Found}
 use Rattle.plan_file.specs.declared.places.Places.{Places}
 use Rattle.plan_file.specs.Contents.{old_content}
 use Rattle.plan_file.specs.Draft.{IsDraftOf}
-use Rattle.v7_map.specs.Found.{IsFile}
+use Rattle.v7_read.specs.Found.{IsFile}
 use Rattle.plan_file.specs.Free.{count_from}
 use Rattle.plan_file.specs.Places.{place_within, map_place, ArePlaces}
 use Rattle.plan_file.specs.Started.{IsFirst}

@@ -40,12 +40,12 @@ use Rattle.v7_map.proofs.Standing.{live-standing}
 use Rattle.v7_map.specs.Stored.{is_standing}
 use Rattle.v7_map.proofs.Walks.{among, among-filter, filter-among, among-range}
 use Rattle.plan_file.specs.declared.draft.Draft.{Draft}
-use Rattle.v7_map.specs.declared.found.Found.{Found}
+use Rattle.v7_read.specs.declared.found.Found.{Found}
 use Rattle.plan_file.specs.declared.places.Places.{Places}
 use Rattle.plan_file.specs.Accepted.{kept_of, spliced_by}
 use Rattle.plan_file.specs.Contents.{old_content, content_put, content_puts, cuts, cut_puts, MapPuts, none, one}
 use Rattle.plan_file.specs.Draft.{drafts_after, draft_replies, IsDraftOf}
-use Rattle.v7_map.specs.Found.{IsFile}
+use Rattle.v7_read.specs.Found.{IsFile}
 use Rattle.plan_file.specs.Free.{count_from}
 use Rattle.index_sets.specs.Free.{is_free}
 use Rattle.plan_file.specs.Grown.{grown_inode}

@@ -5,7 +5,7 @@ use Rattle.stable.specs.Store.{Image}
 use Rattle.v7_layout.specs.declared.inode.Inode.{Inode}
 use Rattle.v7_map.specs.Damage.{place_at}
 use Rattle.v7_map.specs.Frame.{Body, Single, Double, head_of, address_of}
-use Rattle.v7_map.specs.Places as map
+use Rattle.v7_read.specs.Places as map
 use Rattle.plan_file.specs.declared.places.Places.{Places}
 use Rattle.plan_file.specs.Places.{place_within, stored_place, map_place, body_place, ArePlaces}
 

@@ -24,14 +24,14 @@ use Rattle.files_model.specs.Torn.{Asked}
 use Rattle.stable.specs.Puts.{put_all}
 use Rattle.stable.specs.Store.{Image}
 use Rattle.v7_map.specs.Frame.{Frame, Place, Body, Single, Double, head_of, is_directory, address_of, listed, frame}
-use Rattle.v7_map.specs.Found.{IsFile}
+use Rattle.v7_read.specs.Found.{IsFile}
 use Rattle.v7_map.specs.Image.{IsImage, sector_at, inode_at, inode_sector, inode_offset, isize_of}
 use Rattle.v7_map.specs.Plan.{PutsInode}
 use Rattle.v7_map.specs.Plans.{IsPlanOf}
 use Rattle.v7_map.specs.Stored.{is_standing, stored_attr}
 use Rattle.v7_map.specs.View.{view, node_at}
 use Rattle.v7_map.specs.Weak.{IsStrong}
-use Rattle.v7_map.specs.declared.found.Found.{Found}
+use Rattle.v7_read.specs.declared.found.Found.{Found}
 use Rattle.v7_map.proofs.AnyFrame.{frame-IsFrame}
 use Rattle.v7_map.proofs.Prefixes.{put_all-append}
 use Rattle.v7_map.proofs.Puts.{put_all-below}

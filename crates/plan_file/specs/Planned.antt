@@ -13,7 +13,7 @@ use Rattle.stable.specs.Store.{Image}
 use Rattle.v7_map.specs.Image.{inode_sector}
 use Rattle.v7_map.specs.Plans.{IsPlanOf}
 use Rattle.v7_map.specs.View.{view}
-use Rattle.v7_map.specs.declared.found.Found.{Found}
+use Rattle.v7_read.specs.declared.found.Found.{Found}
 use Rattle.v7_sets.specs.Sets.{AreSetsOf}
 use Rattle.v7_sets.specs.declared.sets.Sets.{Sets}
 use Rattle.plan_file.specs.declared.places.Places.{Places}

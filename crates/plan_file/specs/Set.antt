@@ -15,7 +15,7 @@ use Rattle.v7_map.specs.Image.{inode_sector}
 use Rattle.v7_map.specs.Plans.{IsPlanOf}
 use Rattle.v7_map.specs.Stored.{sector_in, stored_sector}
 use Rattle.v7_map.specs.View.{view}
-use Rattle.v7_map.specs.declared.found.Found.{Found}
+use Rattle.v7_read.specs.declared.found.Found.{Found}
 pub use Rattle.v7_sets.specs.Given.{given}
 use Rattle.v7_sets.specs.Sets.{AreSetsOf}
 use Rattle.plan_file.specs.declared.places.Places.{Places}

@@ -8,7 +8,7 @@ ghost use Rattle.files_model.specs.declared.reply.Reply.TheVariants.{Refused};
 ghost use Rattle.files_model.specs.declared.reply.Stat.TheVariants.{Stale};
 ghost use Rattle.stable.specs.Counts.{HasCause, Rose};
 ghost use Rattle.stable.specs.Looked.{Looked};
-ghost use Rattle.v7_map.specs.Found.{IsFile};
+ghost use Rattle.v7_read.specs.Found.{IsFile};
 ghost use Rattle.v7_map.specs.Frame.{frame};
 ghost use Rattle.v7_map.specs.Image.{inode_sector};
 ghost use Rattle.v7_map.specs.Weak.{IsStrong};
@@ -31,7 +31,7 @@ use arrayvec::ArrayVec;
 use files_model::{Attr, FileId, Reply, Stat, WriteItem};
 use stable::{Failed, Plan, Stable};
 use std::alloc::Global;
-use v7_map::{Found, find, inode_sector_of};
+use v7_read::{Found, find, inode_sector_of};
 use v7_sets::Sets;
 
 /// What a batch comes to: a plan, which is empty where all its writes are refused, and the replies in the order of the writes.

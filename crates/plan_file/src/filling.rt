@@ -15,7 +15,8 @@ use crate::places::Places;
 use byteorder::{ByteOrder, LittleEndian};
 use files_model::{Reply, WriteItem};
 use stable::{Failed, Plan, Stable};
-use v7_map::{clip, empty_sector, sector_or_hole};
+use v7_map::clip;
+use v7_read::{empty_sector, sector_or_hole};
 
 // Sector `index` of a body of this size whose block is at an address, none at 0.
 fn old_sector<S: Stable>(

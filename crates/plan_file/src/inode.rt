@@ -9,7 +9,7 @@ ghost use Rattle.plan_file.specs.Places.{AreWithin};
 use crate::places::Places;
 use files_model::Attr;
 use v7_layout::{Inode, Record};
-use v7_map::{Found, inode_offset_of};
+use v7_read::{Found, inode_offset_of};
 
 /// The blocks of the first ten sectors.
 pub fn direct_places(target: &Places) -> [u32; 10]

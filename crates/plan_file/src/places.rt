@@ -7,7 +7,7 @@ ghost use Rattle.plan_file.specs.Places.{place_within, stored_place, ArePlaces, 
 
 use stable::{Failed, Stable};
 use v7_layout::Inode;
-use v7_map::read_places;
+use v7_read::read_places;
 
 /// The most sectors that a volume has.
 const MOST_SECTORS: u32 = 1_048_576;

@@ -5,7 +5,7 @@ ghost use Rattle.files_model.specs.Batch.{one_if};
 ghost use Rattle.files_model.specs.declared.reply.Reply.TheVariants as reply;
 ghost use Rattle.stable.specs.Counts.{HasCause, Rose};
 ghost use Rattle.stable.specs.Looked.{Looked};
-ghost use Rattle.v7_map.specs.Found.{IsFile};
+ghost use Rattle.v7_read.specs.Found.{IsFile};
 ghost use Rattle.v7_map.specs.Frame.{frame};
 ghost use Rattle.v7_map.specs.Image.{inode_sector};
 ghost use Rattle.v7_map.specs.Weak.{IsStrong};
@@ -24,7 +24,8 @@ use files_model::{Attr, Cred, FileId, Reply, Sattr, Stat};
 use stable::{Failed, Plan, Stable};
 use std::alloc::Global;
 use v7_layout::Inode;
-use v7_map::{BodySector, Found, attributes_of, body_sector, find, inode_sector_of, sectors_of};
+use v7_map::{attributes_of, sectors_of};
+use v7_read::{BodySector, Found, body_sector, find, inode_sector_of};
 
 /// What a SETATTR comes to: a plan, which is empty where it is refused, its reply, and the blocks that are free once the whole plan is put.
 #[derive(Drop)]

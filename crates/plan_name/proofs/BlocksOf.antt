@@ -8,7 +8,7 @@ use Rattle.v7_layout.specs.declared.inode.Inode.{Inode}
 use Rattle.v7_map.specs.Damage.{place_at}
 use Rattle.v7_map.specs.Frame.{Place, head_of, address_of, frame}
 use Rattle.v7_map.specs.Image.{inode_at}
-use Rattle.v7_map.specs.Places.{ArePlaces}
+use Rattle.v7_read.specs.Places.{ArePlaces}
 use Rattle.v7_map.specs.Weak.{IsStrong}
 use Rattle.v7_map.proofs.AnyFrame.{frame-IsFrame}
 use Rattle.v7_map.proofs.PlaceIndex.{index_of, index_found}

@@ -13,12 +13,12 @@ use Rattle.files_model.specs.NameRows.{create_row, create_at, create_tests, has_
 use Rattle.files_model.specs.Names.{has_name, place_for, name_tests}
 use Rattle.files_model.specs.Permission.{is_directory}
 use Rattle.stable.specs.Store.{Image}
-use Rattle.v7_map.specs.Found.{IsFile}
+use Rattle.v7_read.specs.Found.{IsFile}
 use Rattle.v7_map.specs.Frame.{frame}
 use Rattle.v7_map.specs.Stored.{stored_attr}
 use Rattle.v7_map.specs.View.{view, node_at, kind_of}
 use Rattle.v7_map.specs.Weak.{IsStrong}
-use Rattle.v7_map.specs.declared.found.Found.{Found}
+use Rattle.v7_read.specs.declared.found.Found.{Found}
 use Rattle.v7_entries.specs.Bodies.{HasBody, slots_at}
 use Rattle.v7_entries.specs.Found.{IsNamedSlot, IsEmptySlot}
 use Rattle.v7_entries.specs.declared.empty.EmptySlot.{EmptySlot}

@@ -10,14 +10,14 @@ use Rattle.files_model.specs.Files.{Slot, live}
 use Rattle.files_model.specs.Names.{has_name, number_at}
 use Rattle.files_model.specs.Permission.{is_directory}
 use Rattle.stable.specs.Store.{Image}
-use Rattle.v7_map.specs.Found.{IsFile}
+use Rattle.v7_read.specs.Found.{IsFile}
 use Rattle.v7_map.specs.Frame as frames
 use Rattle.v7_map.specs.Frame.{frame}
 use Rattle.v7_map.specs.Image.{inode_at, is_inode}
 use Rattle.v7_map.specs.Stored.{stored_attr}
 use Rattle.v7_map.specs.View.{view, files_of, node_at, kind_of}
 use Rattle.v7_map.specs.Weak.{IsStrong}
-use Rattle.v7_map.specs.declared.found.Found.{Found}
+use Rattle.v7_read.specs.declared.found.Found.{Found}
 use Rattle.v7_map.proofs.Frames.{and_left, and_right}
 use Rattle.v7_map.proofs.Standing.{live-standing, attr_of-stored, node-is}
 use Rattle.v7_strokes.specs.Entries.{entry_sector}

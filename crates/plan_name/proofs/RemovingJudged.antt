@@ -17,13 +17,13 @@ use Rattle.files_model.specs.Names.{has_name, number_at, at_node, at_slot, name_
 use Rattle.files_model.specs.Permission.{allows, is_directory}
 use Rattle.stable.specs.Store.{Image}
 use Rattle.v7_layout.specs.declared.inode.Inode.{Inode}
-use Rattle.v7_map.specs.Found.{IsFile}
+use Rattle.v7_read.specs.Found.{IsFile}
 use Rattle.v7_map.specs.Frame.{frame}
 use Rattle.v7_map.specs.Image.{inode_at, is_inode}
 use Rattle.v7_map.specs.Stored.{stored_attr}
 use Rattle.v7_map.specs.View.{view, node_at, kind_of}
 use Rattle.v7_map.specs.Weak.{IsStrong}
-use Rattle.v7_map.specs.declared.found.Found.{Found}
+use Rattle.v7_read.specs.declared.found.Found.{Found}
 use Rattle.v7_map.proofs.Standing.{attr_of-stored}
 use Rattle.v7_entries.specs.Bodies.{HasBody, slots_at}
 use Rattle.v7_entries.specs.Found.{IsNamedSlot}

@@ -21,7 +21,7 @@ use files_model::{Cred, FileId, Name, Sattr, Stat};
 use plan_file::PlanFault;
 use stable::Stable;
 use std::alloc::Global;
-use v7_map::find;
+use v7_read::find;
 use v7_sets::Sets;
 
 /// Plans a CREATE (RFC 1094 2.2.10): STALE, the refusals of its directory and name, then by what the name has. A file that is there gets a set size. A

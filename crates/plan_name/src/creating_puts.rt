@@ -19,7 +19,7 @@ ghost use Rattle.plan_name.specs.Creating.{Makes, IsPlannedMaking, StandWithin, 
 
 use stable::{Failed, Plan, Stable};
 use v7_layout::{Inode, Slot};
-use v7_map::empty_sector;
+use v7_read::empty_sector;
 use v7_strokes::{Blocks, add_inode, add_longer, add_slot, add_times, planned_sector, with_slot};
 
 /// A new entry of a directory, an inode of this number: slot `index`, counted from 0, which stands in this sector.

@@ -4,7 +4,7 @@ ghost use Rattle.std.specs.Prelude.{◌<◌, IfOk};
 ghost use Rattle.plan_name.specs.Creations.{CreationWithin, JudgesCreation};
 ghost use Rattle.stable.specs.Counts.{HasCause};
 ghost use Rattle.stable.specs.Looked.{Looked};
-ghost use Rattle.v7_map.specs.Found.{IsFile};
+ghost use Rattle.v7_read.specs.Found.{IsFile};
 ghost use Rattle.v7_map.specs.Frame.{frame};
 ghost use Rattle.v7_map.specs.Image.{inode_sector};
 ghost use Rattle.v7_map.specs.Weak.{IsStrong};
@@ -15,7 +15,8 @@ use files_model::{Attr, FileId, Name, Sattr, Stat};
 use stable::{Failed, Stable};
 use v7_entries::{find_empty, find_entry};
 use v7_layout::Inode;
-use v7_map::{Found, attributes_of};
+use v7_map::attributes_of;
+use v7_read::Found;
 
 /// What a CREATE comes to before it is planned: a refusal; the i-number that has the name already; the empty slot where a new entry comes, with the
 /// attributes of its directory; or the inode of a directory at whose end it comes.

@@ -8,7 +8,7 @@ ghost use Rattle.files_model.specs.declared.permission.Want.TheVariants as want;
 ghost use Rattle.files_model.specs.declared.reply.Stat.TheVariants as stat;
 ghost use Rattle.stable.specs.Counts.{HasCause};
 ghost use Rattle.stable.specs.Looked.{Looked};
-ghost use Rattle.v7_map.specs.Found.{IsFile};
+ghost use Rattle.v7_read.specs.Found.{IsFile};
 ghost use Rattle.v7_map.specs.Frame.{frame};
 ghost use Rattle.v7_map.specs.Image.{inode_sector};
 ghost use Rattle.v7_map.specs.Weak.{IsStrong};
@@ -20,7 +20,8 @@ use files_model::{Attr, Cred, FileId, Kind, Name, Stat, Want, may};
 use stable::{Failed, Stable};
 use v7_entries::{NamedSlot, find_entry, read_inode};
 use v7_layout::Inode;
-use v7_map::{Found, attributes_of};
+use v7_map::attributes_of;
+use v7_read::Found;
 
 /// What a REMOVE comes to before it is planned: a refusal, or the name that is taken away and the inode of what it names.
 pub(crate) enum Judged {

@@ -18,7 +18,7 @@ use index_sets::FreeSet;
 use plan_file::{Places, file_places};
 use stable::{Failed, Stable};
 use v7_layout::Inode;
-use v7_map::empty_sector;
+use v7_read::empty_sector;
 use v7_strokes::Blocks;
 
 /// The blocks that a directory takes: that of its new sector, and its block of addresses.

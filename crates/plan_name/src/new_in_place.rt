@@ -22,7 +22,7 @@ use files_model::{Attr, Cred, Name, Sattr, Stat};
 use plan_file::PlanFault;
 use stable::{Plan, Stable};
 use std::alloc::Global;
-use v7_map::inode_sector_of;
+use v7_read::inode_sector_of;
 use v7_sets::Sets;
 
 /// Whether a store of so many sectors may have an inode of this number, which a slot can name.

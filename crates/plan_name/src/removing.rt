@@ -25,7 +25,7 @@ use plan_file::PlanFault;
 use stable::{Failed, Plan, Stable};
 use std::alloc::Global;
 use v7_layout::Inode;
-use v7_map::{find, read_places};
+use v7_read::{find, read_places};
 
 // The blocks at the places of an inode, but for the double indirect one, which no volume has.
 fn blocks_of(places: &[u32; 140]) -> ArrayVec<u32, 139>

@@ -7,7 +7,7 @@ use std::alloc::Global;
 use std::test::Fail;
 use store_mem::Memory;
 use v7_layout::Inode;
-use v7_map::inode_in;
+use v7_read::inode_in;
 use v7_sets::Sets;
 use v7_strokes::{Blocks, slot_of, with_inode};
 use volume_mem::{FRESH, test_volume};

@@ -19,8 +19,8 @@ use Rattle.v7_map.specs.Weak.{IsStrong}
 use Rattle.v7_map.proofs.Frames.{and_left, and_right}
 use Rattle.v7_map.proofs.SectorOf.{sector_in-address}
 use Rattle.v7_map.proofs.Contents.{take-more, content-part, length-content}
-use Rattle.v7_map.specs.declared.found.Found.{Found}
-use Rattle.v7_map.specs.Found.{IsFile}
+use Rattle.v7_read.specs.declared.found.Found.{Found}
+use Rattle.v7_read.specs.Found.{IsFile}
 
 take-least : (m : ℕ) (ys : List ℕ) → take (min m (length ys)) ys ≡ take m ys
 take-least m ys = ⊎_elim

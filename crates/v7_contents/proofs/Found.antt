@@ -17,11 +17,11 @@ use Rattle.v7_layout.specs.declared.inode.Inode.{Inode}
 use Rattle.v7_map.specs.Image.{IsImage, inode_at}
 use Rattle.v7_map.specs.Frame as frames
 use Rattle.v7_map.specs.Frame.{frame}
-use Rattle.v7_map.specs.Found.{IsFile}
+use Rattle.v7_read.specs.Found.{IsFile}
 use Rattle.v7_map.specs.Stored.{is_standing, stored_attr, stored_content, read_bytes, answer_by}
 use Rattle.v7_map.specs.View.{view, kind_of}
 use Rattle.v7_map.specs.Weak.{IsStrong}
-use Rattle.v7_map.specs.declared.found.Found.{Found}
+use Rattle.v7_read.specs.declared.found.Found.{Found}
 use Rattle.v7_map.proofs.Contents.{length-content}
 use Rattle.v7_map.proofs.Frames.{and_left, and_right}
 use Rattle.v7_entries.proofs.Directories.{weak_body}

@@ -7,7 +7,7 @@ ghost use Rattle.plan_file.specs.Places.{AreWithin};
 ghost use Rattle.stable.specs.Counts.{Rose};
 ghost use Rattle.stable.specs.Looked.{Looked};
 ghost use Rattle.files_model.specs.declared.attributes.FileId.{FileId};
-ghost use Rattle.v7_map.specs.Found.{IsFile};
+ghost use Rattle.v7_read.specs.Found.{IsFile};
 ghost use Rattle.v7_map.specs.Frame.{frame};
 ghost use Rattle.v7_map.specs.Image.{IsImage};
 ghost use Rattle.v7_map.specs.Stored.{sector_in, read_bytes};
@@ -18,7 +18,8 @@ use plan_file::{Places, file_places};
 use stable::Stable;
 use std::alloc::Global;
 use v7_layout::Inode;
-use v7_map::{Found, clip, sector_or_hole, sectors_of};
+use v7_map::{clip, sectors_of};
+use v7_read::{Found, sector_or_hole};
 
 /// The most bytes of one read (RFC 1094 2.2.7).
 const MOST_READ: u32 = 8192;

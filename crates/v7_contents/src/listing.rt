@@ -16,7 +16,8 @@ use files_model::Entries;
 use stable::Stable;
 use std::alloc::Global;
 use v7_layout::Inode;
-use v7_map::{SIZE_LIMIT, read_places};
+use v7_map::SIZE_LIMIT;
+use v7_read::read_places;
 
 /// Entries of a directory in the order of their slots, and whether no used slot is left after them.
 #[derive(Drop)]

@@ -14,7 +14,7 @@ use crate::page::Page;
 use files_model::{Entry, Name, NoMemory};
 use stable::{Failed, Stable};
 use v7_layout::{Record, Slot};
-use v7_map::sector_or_hole;
+use v7_read::sector_or_hole;
 
 // The name in the 14 bytes that a slot has for it.
 fn name_in(padded: &[u8; 14]) -> Name

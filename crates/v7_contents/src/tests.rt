@@ -7,7 +7,7 @@ use std::alloc::Global;
 use std::test::Fail;
 use store_mem::Memory;
 use v7_layout::{Inode, Record, Slot};
-use v7_map::{empty_sector, find};
+use v7_read::{empty_sector, find};
 use volume_mem::{FRESH, Shape, test_volume};
 
 /// How many slots the directory has.

@@ -9,7 +9,7 @@ use Rattle.v7_layout.specs.Records.{inode_of}
 use Rattle.v7_map.specs.Image.{sector_at, inode_sector, inode_offset, is_inode, inode_at, inodes_before, isize_of}
 use Rattle.v7_map.specs.Frame.{Frame, Head, Body, head_of, address_of, frame, is_directory}
 use Rattle.v7_map.specs.Damage.{place_at}
-use Rattle.v7_map.proofs.Listings.{free_places}
+use Rattle.v7_read.proofs.Listings.{free_places}
 use Rattle.v7_damage.specs.declared.bodies.Bodies.{Bodies}
 use Rattle.v7_damage.specs.Tables.{AreBodies, HasBody, HasTables, IsFirst, IsNext, block_kept, slots_in_size, slots_kept, start_kept}
 use Rattle.v7_damage.specs.Summaries.{summary_at}

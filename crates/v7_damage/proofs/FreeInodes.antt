@@ -5,7 +5,7 @@ use Rattle.stable.specs.Store.{Image}
 use Rattle.v7_map.specs.Image.{inode_at, inode_sector}
 use Rattle.v7_map.specs.Frame.{Frame, frame, is_directory}
 use Rattle.v7_map.specs.Damage.{Kind, place_at}
-use Rattle.v7_map.proofs.Listings.{free_places}
+use Rattle.v7_read.proofs.Listings.{free_places}
 use Rattle.v7_damage.specs.declared.bodies.Bodies.{Bodies}
 use Rattle.v7_damage.specs.declared.damage.Damage.TheVariants as kind
 use Rattle.v7_damage.specs.Marks.{AreSeen}

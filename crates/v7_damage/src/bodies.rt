@@ -14,7 +14,7 @@ use crate::summary::{Summary, no_summary, summary_of};
 use stable::{Failed, NoMemory, Stable};
 use std::alloc::Global;
 use v7_layout::Inode;
-use v7_map::read_places;
+use v7_read::read_places;
 
 /// The type of a directory in the four highest bits of a mode.
 const DIRECTORY: u16 = 4;

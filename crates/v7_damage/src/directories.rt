@@ -15,7 +15,7 @@ use crate::listed::Listed;
 use crate::marks::Marks;
 use crate::noted::Noted;
 use crate::walk::Walks;
-use v7_map::inode_sector_of;
+use v7_read::inode_sector_of;
 
 /// The i-number of the root (filsys(5)).
 const ROOT: u16 = 2;

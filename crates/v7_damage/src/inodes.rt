@@ -20,7 +20,7 @@ use crate::places::test_places;
 use crate::reader::InodeReader;
 use stable::Stable;
 use v7_layout::Inode;
-use v7_map::{inode_sector_of, read_places};
+use v7_read::{inode_sector_of, read_places};
 
 /// The i-number of the root, and that of the inode before it, which is never used (filsys(5)).
 const ROOT: u32 = 2;

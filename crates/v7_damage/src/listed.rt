@@ -19,7 +19,8 @@ use crate::marks::Marks;
 use stable::Stable;
 use std::alloc::Global;
 use v7_layout::{Record, Super};
-use v7_map::{get_sector, has_sizes, inodes_of};
+use v7_map::{has_sizes, inodes_of};
+use v7_read::get_sector;
 
 /// The super-block, and by i-number the type of each inode, its summary, and where the slots of directories stand. The entry at 0 is that of no
 /// inode.

@@ -10,7 +10,7 @@ ghost use Rattle.v7_damage.specs.Stored.{Keeps};
 
 use stable::{Failed, Stable};
 use v7_layout::Inode;
-use v7_map::{empty_sector, get_sector, inode_in, inode_offset_of, inode_sector_of};
+use v7_read::{empty_sector, get_sector, inode_in, inode_offset_of, inode_sector_of};
 
 // The mode of the inode of this number, in the sector where it stands: its first two bytes, low byte first (filsys(5)).
 fn mode_in(sector: &[u8; 512], ino: u32) -> u16

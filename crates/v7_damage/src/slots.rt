@@ -16,7 +16,7 @@ use crate::bodies::{Bodies, Sectors, block_of, find_sectors};
 use crate::damage::RepairFault;
 use stable::{Failed, NoMemory, Stable};
 use v7_layout::{Record, Slot};
-use v7_map::{empty_sector, get_sector};
+use v7_read::{empty_sector, get_sector};
 
 // Reads the sector at an address, zeros where it isn't one of the store's.
 fn sector_or_empty<S: Stable>(store: &mut S, address: u32) -> Result<[u8; 512], Failed>

@@ -4,7 +4,7 @@ use super::*;
 use stable::Stable;
 use std::test::Fail;
 use store_mem::Memory;
-use v7_map::inode_sector_of;
+use v7_read::inode_sector_of;
 use volume_mem::{FRESH, test_volume};
 
 #[test]

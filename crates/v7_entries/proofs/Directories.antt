@@ -11,7 +11,7 @@ use Rattle.files_model.specs.Names.{number_at, number_of}
 use Rattle.stable.specs.Store.{Image}
 use Rattle.v7_map.specs.Image.{sector_at, inode_at}
 use Rattle.v7_map.specs.Frame.{Body, frame, head_of, is_directory, address_of, slot_of, slot_in, slots_of}
-use Rattle.v7_map.specs.Places.{ArePlaces}
+use Rattle.v7_read.specs.Places.{ArePlaces}
 use Rattle.v7_map.specs.Damage.{place_at}
 use Rattle.v7_map.specs.Weak.{IsWeak}
 use Rattle.v7_map.proofs.AnyFrame.{frame-IsFrame}

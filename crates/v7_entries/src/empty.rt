@@ -10,7 +10,7 @@ use crate::body::{body_block, count_slots, slots_from};
 use crate::sector::find_hole;
 use stable::{Failed, Stable};
 use v7_layout::Inode;
-use v7_map::read_places;
+use v7_read::read_places;
 
 /// An empty slot: its number, counted from 0, and the sector where it stands.
 #[derive(Clone, Copy, Debug, PartialEq, Eq)]

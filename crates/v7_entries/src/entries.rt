@@ -10,7 +10,7 @@ use crate::body::{body_block, count_slots, slots_from};
 use crate::sector::has_used;
 use stable::{Failed, Stable};
 use v7_layout::Inode;
-use v7_map::read_places;
+use v7_read::read_places;
 
 /// How many slots are those of `.` and `..`.
 const DOTS: u32 = 2;

@@ -9,7 +9,7 @@ ghost use Rattle.v7_map.specs.Weak.{IsWeak};
 
 use stable::{Failed, Stable};
 use v7_layout::Inode;
-use v7_map::{get_sector, inode_in, inode_sector_of};
+use v7_read::{get_sector, inode_in, inode_sector_of};
 
 /// Reads the inode of this number, used or free; there is none past the store's end. Reads at most one sector, and changes nothing.
 pub fn read_inode<S: Stable>(store: &mut S, ino: u32) -> Result<Option<Inode>, Failed>

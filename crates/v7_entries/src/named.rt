@@ -11,7 +11,7 @@ use crate::sector::find_name;
 use files_model::Name;
 use stable::{Failed, Stable};
 use v7_layout::Inode;
-use v7_map::read_places;
+use v7_read::read_places;
 
 /// A slot that has a name: its number, counted from 0, its i-number, and the sector where it stands.
 #[derive(Clone, Copy, Debug, PartialEq, Eq)]

@@ -13,7 +13,7 @@ use files_model::Name;
 use stable::{Failed, Stable};
 use v7_dir::{find, first_empty};
 use v7_layout::{Record, Slot};
-use v7_map::get_sector;
+use v7_read::get_sector;
 
 /// A slot of a sector that was looked for: its number there, and its i-number, 0 of an empty one.
 #[derive(Clone, Copy)]

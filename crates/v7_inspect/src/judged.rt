@@ -16,7 +16,7 @@ use crate::summed::{is_named, sum_up};
 use stable::{Failed, Stable};
 use std::alloc::Global;
 use v7_damage::{InodeReader, Marks, RepairFault, Undamaged};
-use v7_map::read_places;
+use v7_read::read_places;
 
 // Marks the blocks that one inode needs, which is read with its indirect block only where it is named. Nothing is changed.
 fn mark_inode<S: Stable>(

@@ -13,7 +13,7 @@ use crate::chain::write_records;
 use index_sets::FreeSet;
 use stable::{Failed, Stable};
 use v7_layout::{Chain, Record, Super};
-use v7_map::get_sector;
+use v7_read::get_sector;
 
 /// How many i-numbers a super-block lists at most.
 const LISTED: usize = 100;

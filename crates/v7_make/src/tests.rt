@@ -7,7 +7,7 @@ use std::alloc::Global;
 use std::test::Fail;
 use store_mem::Memory;
 use v7_layout::{Chain, Inode, Record, Slot, Super};
-use v7_map::inode_in;
+use v7_read::inode_in;
 
 // Makes a volume that has all of a store.
 fn make_on(

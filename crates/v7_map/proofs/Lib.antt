@@ -28,9 +28,6 @@ pub mod Children
 pub mod Contents
 pub mod Answers
 pub mod Whole
-pub mod Holes
-pub mod Finding
-pub mod Listings
 pub mod Unheld
 pub mod SuperPuts
 pub mod Named

@@ -7,5 +7,3 @@ pub mod View
 pub mod Plan
 pub mod Stored
 pub mod Plans
-pub mod Found
-pub mod Places

@@ -15,7 +15,8 @@ use crate::settled::{holds_address, settled};
 use crate::trim::map_of;
 use stable::{Failed, Stable};
 use v7_layout::{Inode, Record};
-use v7_map::{get_sector, inode_in, inode_offset_of, sectors_of};
+use v7_map::sectors_of;
+use v7_read::{get_sector, inode_in, inode_offset_of};
 
 /// An inode as it is after a repair, where so many slots name it. Nothing is changed.
 fn settle<S: Stable>(store: &mut S, inode: &Inode, links: u16) -> Result<Inode, Failed>

@@ -9,7 +9,7 @@ use std::alloc::Global;
 use std::test::Fail;
 use store_mem::Memory;
 use v7_layout::{Inode, Record, Super};
-use v7_map::inode_offset_of;
+use v7_read::inode_offset_of;
 use volume_mem::{FRESH, ROOT};
 
 // How many slots name each inode, from 0 on: two the root, and one file 3.

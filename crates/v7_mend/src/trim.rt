@@ -12,7 +12,8 @@ use crate::put::put_changed;
 use crate::settled::{PLACES, holds_address, trim};
 use stable::{Failed, Stable};
 use v7_layout::Inode;
-use v7_map::{get_sector, inode_in, sectors_of};
+use v7_map::sectors_of;
+use v7_read::{get_sector, inode_in};
 
 /// The first sector past the super-block. A repair puts none before it, whatever a damaged volume says.
 const FIRST: u32 = 2;

@@ -11,7 +11,7 @@ ghost use Rattle.v7_mend.specs.Trims.{AreTrimmed, first_in};
 
 use crate::trim::trim_map;
 use stable::{Failed, Stable};
-use v7_map::get_sector;
+use v7_read::get_sector;
 
 /// Trims the blocks of addresses of the inodes of a sector, as `held` is, that are to stay. Answers how many puts it made.
 fn trim_eight<S: Stable>(

@@ -15,7 +15,7 @@ use crate::over::planned_sector;
 use crate::records::{Blocks, longer_inode, unlinked_inode, with_inode, with_slot};
 use stable::{Failed, Plan, Stable};
 use v7_layout::{Inode, Slot};
-use v7_map::{inode_in, inode_sector_of};
+use v7_read::{inode_in, inode_sector_of};
 
 /// The inode of this number as it will be after the plan so far. Nothing is changed.
 pub fn planned_inode<S: Stable>(store: &mut S, plan: &Plan, ino: u32) -> Result<Inode, Failed>

@@ -7,7 +7,7 @@ ghost use Rattle.stable.specs.Puts.{put_all};
 ghost use Rattle.v7_strokes.specs.Over.{sector_after};
 
 use stable::{Failed, Plan, Stable};
-use v7_map::get_sector;
+use v7_read::get_sector;
 
 // What one put leaves of a sector.
 fn after_put(put: &(u32, [u8; 512]), sector: u32, bytes: &[u8; 512]) -> [u8; 512]

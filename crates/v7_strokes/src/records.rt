@@ -8,7 +8,7 @@ ghost use Rattle.v7_strokes.specs.Slots.{PutsSlot};
 
 use byteorder::{ByteOrder, LittleEndian};
 use v7_layout::{Inode, Record, Slot};
-use v7_map::inode_offset_of;
+use v7_read::inode_offset_of;
 
 /// How many bytes of name a slot has (filsys(5)).
 const MOST_NAME: usize = 14;

@@ -6,7 +6,7 @@ use std::alloc::Global;
 use std::test::Fail;
 use store_mem::Memory;
 use v7_layout::Inode;
-use v7_map::inode_in;
+use v7_read::inode_in;
 use volume_mem::{FRESH, test_volume};
 
 fn volume(alloc: Global) -> Result<Memory, Fail> {

@@ -18,8 +18,8 @@ use Rattle.v7_map.specs.Frame.{frame}
 use Rattle.v7_map.specs.Stored.{is_standing, answer_by}
 use Rattle.v7_map.specs.View.{view}
 use Rattle.v7_map.specs.Weak.{IsStrong}
-use Rattle.v7_map.specs.declared.found.Found.{Found}
-use Rattle.v7_map.specs.Found.{IsFile}
+use Rattle.v7_read.specs.declared.found.Found.{Found}
+use Rattle.v7_read.specs.Found.{IsFile}
 use Rattle.v7_entries.specs.Answers.{lookup_refusal_by, search_refusal_by, handle_reply, answer_at}
 use Rattle.v7_entries.specs.Bodies.{HasBody, slots_at}
 use Rattle.v7_entries.specs.Found.{FindsName, IsNamedSlot}

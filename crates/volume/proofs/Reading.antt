@@ -27,8 +27,8 @@ use Rattle.v7_map.proofs.Frames.{and_left, and_right}
 use Rattle.v7_map.proofs.SectorOf.{sector_in-address}
 use Rattle.v7_map.proofs.Answers.{getattr-answer, read-answer}
 use Rattle.v7_map.proofs.Contents.{take-more, content-part, length-content}
-use Rattle.v7_map.specs.declared.found.Found.{Found}
-use Rattle.v7_map.specs.Found.{IsFile}
+use Rattle.v7_read.specs.declared.found.Found.{Found}
+use Rattle.v7_read.specs.Found.{IsFile}
 use Rattle.volume.proofs.Applying.{IsRefusal}
 
 -- ---- they change nothing

@@ -17,8 +17,8 @@ use Rattle.v7_map.specs.Frame.{frame}
 use Rattle.v7_map.specs.Stored.{is_standing}
 use Rattle.v7_map.specs.View.{view, files_of, node_at}
 use Rattle.v7_map.specs.Weak.{IsStrong}
-use Rattle.v7_map.specs.declared.found.Found.{Found}
-use Rattle.v7_map.specs.Found.{Finds}
+use Rattle.v7_read.specs.declared.found.Found.{Found}
+use Rattle.v7_read.specs.Found.{Finds}
 use Rattle.v7_map.proofs.Standing.{live-standing}
 use Rattle.v7_sets.specs.Sets.{AreSetsOf}
 use Rattle.v7_space.proofs.Space.{free_blocks-counted}

@@ -6,7 +6,8 @@ ghost use Rattle.volume.specs.Applied.{IsApplied};
 use crate::outcome::Outcome;
 use files_model::{Cred, FileId, Reply, Stat};
 use stable::Stable;
-use v7_map::{attributes_of, find};
+use v7_map::attributes_of;
+use v7_read::find;
 
 /// Tells the attributes of a file. Nothing is changed.
 pub fn getattr<S: Stable>(store: &mut S, file: FileId, cred: &Cred, now: u32) -> Outcome

@@ -7,7 +7,8 @@ use crate::outcome::Outcome;
 use files_model::{Cred, FileId, Name, Reply, Stat};
 use stable::Stable;
 use v7_entries::{find_entry, lookup_refusal_of, read_inode, search_refusal_of};
-use v7_map::{attributes_of, find};
+use v7_map::attributes_of;
+use v7_read::find;
 
 /// Looks up a name in a directory, by its first slot of that name: the handle and the attributes of what it leads to. Each sector of the directory
 /// is read at most once. Nothing is changed.

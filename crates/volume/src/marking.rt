@@ -10,7 +10,7 @@ ghost use Rattle.volume.specs.Marks.{IsMarked, MayMark, running};
 
 use stable::{Failed, Stable};
 use v7_layout::{Record, Super};
-use v7_map::get_sector;
+use v7_read::get_sector;
 
 // The super-block of an open volume, put at that second.
 fn running(super_block: &Super, now: u32) -> Super

@@ -7,7 +7,8 @@ ghost use Rattle.volume.specs.Opens.{HasTitle};
 use files_model::FileId;
 use stable::{Failed, Stable};
 use v7_layout::{Record, Super};
-use v7_map::{get_sector, has_sizes, inode_in, inode_sector_of};
+use v7_map::has_sizes;
+use v7_read::{get_sector, inode_in, inode_sector_of};
 
 /// The number of the root directory (filsys(5)).
 const ROOT: u32 = 2;

@@ -7,8 +7,9 @@ use crate::outcome::Outcome;
 use files_model::{Cred, Data, FileId, Reply, Stat};
 use stable::Stable;
 use std::alloc::Global;
-use v7_map::{attributes_of, find, read_refusal_of};
 use v7_contents::{ReadFault, read_content};
+use v7_map::{attributes_of, read_refusal_of};
+use v7_read::find;
 
 /// Reads bytes of a file, each sector at most once, and the block of addresses once. Nothing is changed.
 pub fn read<S: Stable>(

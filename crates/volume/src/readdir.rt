@@ -7,8 +7,8 @@ use crate::outcome::Outcome;
 use files_model::{Cred, FileId, Reply, Stat};
 use stable::Stable;
 use std::alloc::Global;
-use v7_map::find;
 use v7_contents::{ReadFault, list_entries, readdir_refusal_of};
+use v7_read::find;
 
 /// Lists entries of a directory from the one that a cookie leads to on, as many as a reply of so many bytes takes. Each sector of the directory is
 /// read at most once, and its block of addresses once. Nothing is changed.

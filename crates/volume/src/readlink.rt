@@ -7,8 +7,8 @@ use crate::outcome::Outcome;
 use files_model::{Cred, FileId, Reply, Stat, Text};
 use stable::Stable;
 use std::alloc::Global;
-use v7_map::find;
 use v7_contents::{ReadFault, read_content, readlink_refusal_of};
+use v7_read::find;
 
 /// The most bytes of a link (RFC 1094 2.3.9, path).
 const MOST_TEXT: u32 = 1024;

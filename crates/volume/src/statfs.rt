@@ -8,7 +8,7 @@ ghost use Rattle.volume.specs.Rests.{RestsOn};
 use crate::outcome::Outcome;
 use files_model::{Cred, FileId, Reply, Stat};
 use stable::Stable;
-use v7_map::find;
+use v7_read::find;
 use v7_sets::Sets;
 
 // How many data blocks a volume has, by the sizes of its sets: a bit for each block, and one for each i-number and 0. The list of inodes, eight to

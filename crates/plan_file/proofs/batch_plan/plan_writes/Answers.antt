@@ -1,7 +1,7 @@
 use Rattle.std.proofs.Common.{◌≡◌, false, ap, sym, subst}
 use Rattle.stable.specs.Puts.{Reserved}
 use Rattle.stable.specs.Store.{Image}
-use Rattle.v7_map.specs.Found.{Finds}
+use Rattle.v7_read.specs.Found.{Finds}
 use Rattle.v7_map.specs.Stored.{is_standing}
 use Rattle.plan_file.specs.Planned.{IsPlanned}
 use Rattle.plan_file.proofs.Adding.{stale-answers}

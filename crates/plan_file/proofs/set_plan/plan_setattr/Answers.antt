@@ -1,7 +1,7 @@
 use Rattle.std.proofs.Common.{◌≡◌, false, subst, ap}
 use Rattle.stable.specs.Puts.{Reserved}
 use Rattle.stable.specs.Store.{Image}
-use Rattle.v7_map.specs.Found.{Finds}
+use Rattle.v7_read.specs.Found.{Finds}
 use Rattle.v7_map.specs.Stored.{is_standing}
 use Rattle.plan_file.proofs.SetDone.{stale-set, same-planned}
 use Rattle.plan_file.proofs.set_plan.plan_setattr.Goals as goal

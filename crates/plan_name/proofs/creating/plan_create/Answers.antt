@@ -3,7 +3,7 @@ use Rattle.files_model.specs.declared.call.Call.TheVariants.{Create}
 use Rattle.files_model.specs.declared.reply.Reply.TheVariants as reply
 use Rattle.files_model.specs.declared.reply.Stat.TheVariants as stat
 use Rattle.stable.specs.Store.{Image}
-use Rattle.v7_map.specs.Found.{Finds}
+use Rattle.v7_read.specs.Found.{Finds}
 use Rattle.plan_name.proofs.CreatingPlanned.{creation-stale}
 use Rattle.plan_name.proofs.PlannedCall.{unchanged-call}
 use Rattle.plan_name.proofs.RemovingJudged.{none_of}

@@ -1,7 +1,7 @@
 use Rattle.std.proofs.Common.{rules, arith, ◌≡◌, ◌<◌, length, get_or, [], Some, ap, sym, subst, ◌∙◌}
 use Rattle.stable.specs.Store.{Image}
 use Rattle.v7_map.specs.Image.{sector_at, inode_sector}
-use Rattle.v7_map.proofs.Finding.{inode-read}
+use Rattle.v7_read.proofs.Finding.{inode-read}
 use Rattle.v7_map.proofs.Ranges.{inode_sector-inside}
 use Rattle.v7_map.proofs.Whole.{as_long}
 use Rattle.v7_entries.proofs.inode.read_inode.Goals as goal

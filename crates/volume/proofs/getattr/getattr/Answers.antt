@@ -5,8 +5,8 @@ use Rattle.files_model.specs.declared.reply.Reply.TheVariants as reply
 use Rattle.files_model.specs.declared.reply.Stat.TheVariants as stat
 use Rattle.stable.proofs.Clocked.{weaker}
 use Rattle.v7_map.specs.View.{view}
-use Rattle.v7_map.specs.declared.found.Found.{Found}
-use Rattle.v7_map.specs.Found.{Finds, IsFile}
+use Rattle.v7_read.specs.declared.found.Found.{Found}
+use Rattle.v7_read.specs.Found.{Finds, IsFile}
 use Rattle.volume.proofs.Applying.{torn_same, done_same, done_refused}
 use Rattle.volume.proofs.Reading.{getattr-idle, getattr_stale, getattr_found}
 use Rattle.volume.proofs.getattr.getattr.Goals as goal

@@ -10,8 +10,8 @@ use Rattle.v7_layout.specs.declared.inode.Inode.{Inode}
 use Rattle.v7_map.specs.Frame.{frame}
 use Rattle.v7_map.specs.Image.{inode_at, is_inode}
 use Rattle.v7_map.specs.Weak.{IsWeak}
-use Rattle.v7_map.specs.declared.found.Found.{Found}
-use Rattle.v7_map.specs.Found.{Finds, IsFile}
+use Rattle.v7_read.specs.declared.found.Found.{Found}
+use Rattle.v7_read.specs.Found.{Finds, IsFile}
 use Rattle.v7_entries.specs.Answers.{lookup_refusal_by, search_refusal_by}
 use Rattle.v7_entries.specs.Bodies.{HasBody}
 use Rattle.v7_entries.specs.Found.{FindsName, IsNamedSlot}

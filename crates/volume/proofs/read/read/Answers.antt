@@ -10,8 +10,8 @@ use Rattle.stable.proofs.Looking.{looks_again}
 use Rattle.v7_map.specs.Frame.{frame}
 use Rattle.v7_map.specs.Stored.{read_bytes}
 use Rattle.v7_map.specs.Weak.{IsStrong}
-use Rattle.v7_map.specs.declared.found.Found.{Found}
-use Rattle.v7_map.specs.Found.{Finds, IsFile}
+use Rattle.v7_read.specs.declared.found.Found.{Found}
+use Rattle.v7_read.specs.Found.{Finds, IsFile}
 use Rattle.volume.proofs.Applying.{torn_same, done_refused, answered_looking}
 use Rattle.volume.proofs.Reading.{read-idle, read_stale, read_refused, read_found}
 use Rattle.volume.proofs.read.read.Goals as goal

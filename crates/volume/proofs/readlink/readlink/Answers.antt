@@ -5,8 +5,8 @@ use Rattle.files_model.specs.declared.reply.Stat.TheVariants as stat
 use Rattle.stable.specs.Store.{Image}
 use Rattle.stable.proofs.Looking.{looks_again}
 use Rattle.v7_layout.specs.declared.inode.Inode.{Inode}
-use Rattle.v7_map.specs.declared.found.Found.{Found}
-use Rattle.v7_map.specs.Found.{Finds, IsFile}
+use Rattle.v7_read.specs.declared.found.Found.{Found}
+use Rattle.v7_read.specs.Found.{Finds, IsFile}
 use Rattle.v7_entries.proofs.Directories.{none_of}
 use Rattle.v7_map.specs.Frame.{frame}
 use Rattle.v7_map.specs.Stored.{read_bytes}

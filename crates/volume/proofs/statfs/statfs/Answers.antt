@@ -2,8 +2,8 @@ use Rattle.std.proofs.Common.{subst, Option, refl}
 use Rattle.files_model.specs.declared.call.Call.TheVariants.{Statfs}
 use Rattle.files_model.specs.declared.reply.Reply.TheVariants as reply
 use Rattle.files_model.specs.declared.reply.Stat.TheVariants as stat
-use Rattle.v7_map.specs.declared.found.Found.{Found}
-use Rattle.v7_map.specs.Found.{Finds}
+use Rattle.v7_read.specs.declared.found.Found.{Found}
+use Rattle.v7_read.specs.Found.{Finds}
 use Rattle.volume.proofs.Applying.{answered_looking}
 use Rattle.volume.proofs.Idling.{statfs_idle}
 use Rattle.volume.proofs.Spaces.{finds_stands, statfs_stale, statfs_found}

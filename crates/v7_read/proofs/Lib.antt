@@ -1,0 +1,3 @@
+pub mod Holes
+pub mod Finding
+pub mod Listings
