@@ -1,5 +1,7 @@
 //! New files on a small volume: a root, inode 2, whose three slots stand in sector 4, and file 3 with its name in slot 2.
 
+mod calls;
+
 use super::*;
 use files_model::{Attr, Cred, FileId, Gids, Kind, Name, Reply, Sattr, Stat};
 use stable::{Failed, Plan, Stable};

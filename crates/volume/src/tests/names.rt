@@ -31,13 +31,13 @@ fn asked(volume: &mut Volume<Memory>, call: &Call) -> Outcome
 }
 
 // A CREATE in the root with mode 0640.
-fn create(volume: &mut Volume<Memory>, name: &[u8]) -> Outcome
+fn create(volume: &mut Volume<Memory>, name: Name) -> Outcome
     requires { Rests ⟦<Memory as Stable>⟧ volume.old }
     ensures { Rests ⟦<Memory as Stable>⟧ volume.new }
 {
     let call = Call::Create {
         dir: ROOT,
-        name: Name::copy(name),
+        name,
         set: Sattr {
             mode: Some(0o640),
             uid: None,
@@ -51,14 +51,11 @@ fn create(volume: &mut Volume<Memory>, name: &[u8]) -> Outcome
 }
 
 // A REMOVE from the root.
-fn remove(volume: &mut Volume<Memory>, name: &[u8]) -> Outcome
+fn remove(volume: &mut Volume<Memory>, name: Name) -> Outcome
     requires { Rests ⟦<Memory as Stable>⟧ volume.old }
     ensures { Rests ⟦<Memory as Stable>⟧ volume.new }
 {
-    let call = Call::Remove {
-        dir: ROOT,
-        name: Name::copy(name),
-    };
+    let call = Call::Remove { dir: ROOT, name };
     asked(volume, &call)
 }
 
@@ -82,7 +79,7 @@ fn made(ino: u32) -> Attr {
 fn a_new_file_is_put_before_its_slot(rt: HostRuntime) -> Result<(), Fail> {
     let alloc = rt.alloc();
     let (mut volume, _) = opened(alloc, store(alloc, 0)?)?;
-    let Outcome::Reply(Reply::Handle { file, attr }) = create(&mut volume, b"g") else {
+    let Outcome::Reply(Reply::Handle { file, attr }) = create(&mut volume, Name::copy(b"g")) else {
         panic!(rt; "nothing was made");
     };
     let new = FileId {
@@ -107,7 +104,12 @@ fn a_new_file_is_put_before_its_slot(rt: HostRuntime) -> Result<(), Fail> {
 fn what_a_file_without_a_name_had_is_free(rt: HostRuntime) -> Result<(), Fail> {
     let alloc = rt.alloc();
     let (mut volume, _) = opened(alloc, store(alloc, 0)?)?;
-    assert!(rt; matches!(remove(&mut volume, b"f"), Outcome::Reply(Reply::Done)));
+    assert!(rt;
+        matches!(
+            remove(&mut volume, Name::copy(b"f")),
+            Outcome::Reply(Reply::Done)
+        )
+    );
     let space = asked(&mut volume, &Call::Statfs { file: ROOT });
     assert!(rt;
         matches!(
@@ -120,7 +122,7 @@ fn what_a_file_without_a_name_had_is_free(rt: HostRuntime) -> Result<(), Fail> {
     );
     let gone = asked(&mut volume, &Call::Getattr { file: FILE });
     assert!(rt; matches!(gone, Outcome::Reply(Reply::Refused(Stat::Stale))));
-    let Outcome::Reply(Reply::Handle { file, attr }) = create(&mut volume, b"h") else {
+    let Outcome::Reply(Reply::Handle { file, attr }) = create(&mut volume, Name::copy(b"h")) else {
         panic!(rt; "nothing was made");
     };
     let again = FileId {
@@ -142,7 +144,7 @@ fn a_failed_removal_is_mended_by_the_next_call(rt: HostRuntime) -> Result<(), Fa
     let alloc = rt.alloc();
     // the put of the inodes, after those of the super-block and of the slot
     let (mut volume, _) = opened(alloc, store(alloc, 3)?)?;
-    assert!(rt; matches!(remove(&mut volume, b"f"), Outcome::Io));
+    assert!(rt; matches!(remove(&mut volume, Name::copy(b"f")), Outcome::Io));
     let space = asked(&mut volume, &Call::Statfs { file: ROOT });
     assert!(rt;
         matches!(
