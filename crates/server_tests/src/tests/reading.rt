@@ -60,9 +60,11 @@ const LINK_ROWS: [Row; 2] = [
 
 fn request(alloc: Global, row: Row) -> Result<Vec<u8>, Fail> {
     let mut bytes = Vec::new(alloc);
-    for words in [CALL.as_slice(), &[row.0], &CREDENTIAL, &row.1, row.2] {
-        add_words(&mut bytes, words)?;
-    }
+    add_words(&mut bytes, &CALL)?;
+    add_words(&mut bytes, &[row.0])?;
+    add_words(&mut bytes, &CREDENTIAL)?;
+    add_words(&mut bytes, &row.1)?;
+    add_words(&mut bytes, row.2)?;
     Ok(bytes)
 }
 
