@@ -213,7 +213,7 @@ fn no_sector_is_read_often(rt: HostRuntime) -> Result<(), Fail> {
     let mut store = patched(rt.alloc(), &patches)?;
     assert!(rt; inspect(rt.alloc(), &mut store).is_ok());
     let mut inspected = [0; 64];
-    for (sector, times) in [(1, 1), (2, 1), (3, 1), (4, 2), (7, 1)] {
+    for (sector, times) in [(1, 1), (2, 1), (3, 1), (4, 1), (7, 1)] {
         inspected[sector] = times;
     }
     assert!(rt; store.reads == inspected);
@@ -224,7 +224,7 @@ fn no_sector_is_read_often(rt: HostRuntime) -> Result<(), Fail> {
     most[1] = 1;
     most[2] = 5;
     most[3] = 4;
-    most[4] = 2;
+    most[4] = 1;
     most[7] = 4;
     assert!(rt; store.reads == most);
     Ok(())
