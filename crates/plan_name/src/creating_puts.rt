@@ -90,8 +90,8 @@ fn slot_sector<S: Stable>(
     planned_sector(store, plan, sector)
 }
 
-// Adds the put of a block of addresses, if it changes.
-fn add_map(plan: &mut Plan, map: &Option<Listing>)
+/// Adds the put of a block of addresses, if it changes.
+pub fn add_map(plan: &mut Plan, map: &Option<Listing>)
     requires { length plan.old.puts < plan.old.room }
     ensures { plan.new ≡ with_puts plan.old (plan.old.puts ++ map_puts map.now) }
 {
@@ -101,8 +101,8 @@ fn add_map(plan: &mut Plan, map: &Option<Listing>)
     }
 }
 
-// Adds the put of the sector of a new slot.
-fn add_new_slot<S: Stable>(
+/// Adds the put of the sector of a new slot, which is zeros before where it is a new one, and answers what it holds then. Nothing is put.
+pub fn add_new_slot<S: Stable>(
     store: &mut S,
     plan: &mut Plan,
     entry: &Entry,

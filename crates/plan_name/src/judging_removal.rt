@@ -29,8 +29,8 @@ pub(crate) enum Judged {
     Takes(Taking, Inode),
 }
 
-// The refusal of a name in a directory before it is looked up, if any: ROFS on a read-only volume, NOTDIR in what is no directory, that of the name.
-fn place_refusal(read_only: bool, kind: Kind, name: &Name) -> Option<Stat>
+/// The refusal of a name in a directory before it is looked up, if any: ROFS on a read-only volume, NOTDIR in what is no directory, that of the name.
+pub fn place_refusal(read_only: bool, kind: Kind, name: &Name) -> Option<Stat>
     ensures { result ≡ first_of ((read_only, stat.Rofs) ∷ (not (is_directory kind), stat.Notdir) ∷ name_tests name.now) }
 {
     if read_only {

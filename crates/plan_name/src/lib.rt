@@ -21,18 +21,21 @@ mod removing_puts;
 mod standing;
 
 pub use creating::plan_create;
-pub use creating_puts::{Entry, Listing, Longer, add_at_end, add_in_place};
+pub use creating_puts::{
+    Entry, Listing, Longer, add_at_end, add_in_place, add_map, add_new_slot,
+};
 pub use growth::added_blocks;
 pub use judging::judge_new;
+pub use judging_removal::place_refusal;
 pub use laying_out::{Laid, NewBlocks, lay_out, take_new};
 pub use making::{Spot, make_in_place};
 pub use making_at_end::make_at_end;
 pub use names::{create_refusal, entry_refusal, name_refusal, standing_refusal};
 pub use new_at_end::plan_new_at_end;
-pub use new_in_place::plan_new_in_place;
+pub use new_in_place::{can_be_number, plan_new_in_place};
 pub use new_node::new_file;
-pub use planned::{Freed, Planned};
-pub use removing::plan_remove;
+pub use planned::{Freed, Planned, none_freed, refused, unchanged};
+pub use removing::{freed_blocks, freed_number, plan_remove};
 pub use removing_puts::{Taking, add_removal};
 pub use standing::{plan_standing, plan_standing_name};
 

@@ -26,7 +26,7 @@ use v7_read::inode_sector_of;
 use v7_sets::Sets;
 
 /// Whether a store of so many sectors may have an inode of this number, which a slot can name.
-pub(crate) fn can_be_number(sectors: u32, ino: u32) -> bool
+pub fn can_be_number(sectors: u32, ino: u32) -> bool
     ensures yes { result ≡ true → CanBeNumber sectors ino }
     ensures no { result ≡ false → CanBeNumber sectors ino → ⊥ }
 {

@@ -23,7 +23,7 @@ pub struct Planned {
 }
 
 /// Nothing is freed.
-pub(crate) fn none_freed() -> Freed
+pub fn none_freed() -> Freed
     ensures blocks { result.blocks.items ≡ [] }
     ensures inode { result.inode ≡ None }
 {
@@ -34,7 +34,7 @@ pub(crate) fn none_freed() -> Freed
 }
 
 /// Nothing is planned, and this is the answer.
-pub(crate) fn unchanged(alloc: Global, answer: Reply) -> Planned
+pub fn unchanged(alloc: Global, answer: Reply) -> Planned
     ensures plan { result.plan ≡ record { puts = []; room = 0 } }
     ensures reply { result.reply ≡ answer }
     ensures blocks { result.freed.blocks.items ≡ [] }
@@ -48,7 +48,7 @@ pub(crate) fn unchanged(alloc: Global, answer: Reply) -> Planned
 }
 
 /// Nothing is planned, and the call is refused so.
-pub(crate) fn refused(alloc: Global, status: Stat) -> Planned
+pub fn refused(alloc: Global, status: Stat) -> Planned
     ensures plan { result.plan ≡ record { puts = []; room = 0 } }
     ensures reply { result.reply ≡ reply.Refused status }
     ensures blocks { result.freed.blocks.items ≡ [] }

@@ -41,8 +41,8 @@ fn blocks_of(places: &[u32; 140]) -> ArrayVec<u32, 139>
     blocks
 }
 
-// The blocks that are free once a node lost a name: all of its own where that was the last, and else none.
-fn freed_blocks<S: Stable>(
+/// The blocks that are free once a node lost a name: all of its own where that was the last, and else none. Reads at most one sector.
+pub fn freed_blocks<S: Stable>(
     store: &mut S,
     inode: &Inode,
     last: bool,
@@ -58,12 +58,12 @@ fn freed_blocks<S: Stable>(
     Ok(blocks_of(&places))
 }
 
-// The i-number that new files may have again: that of a node that ended, unless its generation can't go up.
-fn freed_number(taking: &Taking, generation: u32) -> Option<u32>
-    ensures { result ≡ (if taking.now.last && nat_lt generation 4294967295 then Some taking.now.node else None) }
+/// The i-number that new files may have again once a node lost a name: its own where that was the last, unless its generation can't go up.
+pub fn freed_number(node: u32, last: bool, generation: u32) -> Option<u32>
+    ensures { result ≡ (if last && nat_lt generation 4294967295 then Some node else None) }
 {
-    if taking.last && generation < u32::MAX {
-        Some(taking.node)
+    if last && generation < u32::MAX {
+        Some(node)
     } else {
         None
     }
@@ -90,7 +90,7 @@ fn put_removal<S: Stable>(
     let blocks = freed_blocks(store, inode, taking.last)?;
     let freed = Freed {
         blocks,
-        inode: freed_number(taking, inode.generation),
+        inode: freed_number(taking.node, taking.last, inode.generation),
     };
     Ok(Planned {
         plan,
