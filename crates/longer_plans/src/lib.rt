@@ -1,0 +1,2 @@
+//! Laws of plans of names whose directory gets longer by new blocks.
+#![tactic(auto)]

@@ -1,0 +1,2 @@
+//! The plan of an MKDIR.
+#![tactic(auto)]
