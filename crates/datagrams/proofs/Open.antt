@@ -5,7 +5,7 @@ use Rattle.files_model.specs.declared.attributes.FileId.{FileId}
 use Rattle.files_model.specs.declared.call.Call.{Call}
 use Rattle.files_model.specs.declared.call.Call.TheVariants as call
 use Rattle.files_model.specs.declared.credential.Cred.{Cred}
-use Rattle.files_model.specs.Step.{has_row}
+use Rattle.served_calls.specs.Served.{is_served}
 use Rattle.xdr_rpc.specs.declared.call.RpcCall.{RpcCall}
 use Rattle.xdr_rpc.specs.declared.tests_in_order.Unserved.TheVariants.{NoReply, Refused}
 use Rattle.xdr_rpc.specs.Order.{Test, call_of}
@@ -41,7 +41,7 @@ IsOpenRead volumes read.Garbage = Unit {0}
 
 -- a call that has a row, on a volume that is open
 pub record IsOpenCall (volumes volume : ℕ) (c : Call) : Type 0 where
-  pub row : has_row c ≡ true
+  pub row : is_served c ≡ true
   pub open_volume : volume < volumes
 
 abbrev pub IsOpenMeaning : ℕ → Datagram → Type 0
@@ -102,12 +102,12 @@ open_read procedure bytes volumes =
 
 -- ---- what a datagram means
 
-open_on : (volumes xid volume : ℕ) (cred : Cred) (c : Call) (b : Bool) → has_row c ≡ b → volume < volumes → IsOpenMeaning volumes (cond b (Asks xid volume cred c) NoMeaning)
+open_on : (volumes xid volume : ℕ) (cred : Cred) (c : Call) (b : Bool) → is_served c ≡ b → volume < volumes → IsOpenMeaning volumes (cond b (Asks xid volume cred c) NoMeaning)
 open_on volumes xid volume cred c true row lt = record { row = row; open_volume = lt }
 open_on volumes xid volume cred c false none lt = tt
 
 open_nfs : (volumes : ℕ) (rpc : RpcCall) (r : NfsCall) → IsOpenRead volumes r → IsOpenMeaning volumes (nfs_meaning rpc r)
-open_nfs volumes rpc (read.Call volume c) h = open_on volumes rpc.xid volume rpc.cred c (has_row c) refl h
+open_nfs volumes rpc (read.Call volume c) h = open_on volumes rpc.xid volume rpc.cred c (is_served c) refl h
 open_nfs volumes rpc read.Stale h = tt
 open_nfs volumes rpc read.Void h = tt
 open_nfs volumes rpc read.Garbage h = tt

@@ -1,7 +1,7 @@
 -- A call on a volume that was sent is read as that call.
 use Rattle.std.proofs.Common.{◌≡◌, ℕ, refl, ap, ◌∙◌}
 use Rattle.files_model.specs.declared.call.Call.{Call}
-use Rattle.files_model.specs.Step.{has_row}
+use Rattle.served_calls.specs.Served.{is_served}
 use Rattle.xdr_rpc.specs.declared.call.RpcCall.{RpcCall}
 use Rattle.xdr_rpc.specs.Sending.{sent_as}
 use Rattle.xdr_rpc.proofs.Served.{served_again}

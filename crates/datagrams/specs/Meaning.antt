@@ -4,7 +4,7 @@ use Rattle.files_model.specs.declared.call.Call.{Call}
 use Rattle.files_model.specs.declared.credential.Cred.{Cred}
 use Rattle.files_model.specs.declared.reply.Reply.TheVariants.{Refused as Refusal}
 use Rattle.files_model.specs.declared.reply.Stat.TheVariants as stat
-use Rattle.files_model.specs.Step.{has_row}
+use Rattle.served_calls.specs.Served.{is_served}
 use Rattle.xdr_rpc.specs.declared.call.RpcCall.{RpcCall}
 use Rattle.xdr_rpc.specs.declared.refusal.Cause.TheVariants.{Done, Garbage, TooWeak}
 use Rattle.xdr_rpc.specs.declared.tests_in_order.Unserved.TheVariants.{NoReply, Refused}
@@ -23,7 +23,7 @@ use Rattle.datagrams.specs.declared.datagram.Datagram.TheVariants.{NoMeaning, Ou
 
 -- a call on an open volume; one without a row of the step means nothing yet
 abbrev pub asked_on : ℕ → ℕ → Cred → Call → Datagram
-asked_on xid volume cred call = if has_row call then Asks xid volume cred call else NoMeaning
+asked_on xid volume cred call = if is_served call then Asks xid volume cred call else NoMeaning
 
 -- a handle that names no file of an open volume is answered STALE
 abbrev pub nfs_meaning : RpcCall → NfsCall → Datagram

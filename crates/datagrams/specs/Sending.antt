@@ -1,7 +1,7 @@
 -- How calls on volumes are sent.
 use Rattle.std.specs.Prelude.{◌≡◌, ℕ, List, true}
 use Rattle.files_model.specs.declared.call.Call.{Call}
-use Rattle.files_model.specs.Step.{has_row}
+use Rattle.served_calls.specs.Served.{is_served}
 use Rattle.xdr_rpc.specs.declared.call.RpcCall.{RpcCall}
 use Rattle.xdr_rpc.specs.Sending.{CanBeServed}
 use Rattle.nfs2_wire.specs.AllSending.{arguments_of, procedure_of, CanBeCalled}
@@ -14,4 +14,4 @@ pub record Sends (rpc : RpcCall) (volumes volume : ℕ) (asked : Call) : Type 0 
   pub rest : List ℕ
   pub args : rpc.args ≡ arguments_of volume asked rest
   pub fits : CanBeCalled volumes volume asked
-  pub row : has_row asked ≡ true
+  pub row : is_served asked ≡ true

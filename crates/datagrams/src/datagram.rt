@@ -1,7 +1,6 @@
 //! What a datagram means.
 ghost use Rattle.std.specs.Prelude.{◌≡◌, ◌≤◌, ℕ, length, IfOk, OnErr, IsOk};
 ghost use Rattle.files_model.specs.declared.call.Call.{Call};
-ghost use Rattle.files_model.specs.Step.{has_row};
 ghost use Rattle.xdr_rpc.specs.declared.call.RpcCall.{RpcCall};
 ghost use Rattle.xdr_rpc.specs.Order.{call_of};
 ghost use Rattle.xdr_rpc.specs.Sending.{sent_as};
@@ -12,6 +11,7 @@ ghost use Rattle.datagrams.specs.Sending.{Sends};
 use files_model::{Call, Cred, NoMemory};
 use nfs2_wire::{NfsCall, read_arguments, stale_reply};
 use presto_rpc::{Control, read_control, write_answer};
+use served_calls::is_served;
 use stable::Command;
 use std::alloc::Global;
 use xdr_rpc::{RpcCall, RpcRead, ShortReply, garbage_reply, read_rpc, too_weak_reply, void_reply};
@@ -31,7 +31,7 @@ pub enum Datagram {
     NoMeaning,
     /// It is answered by these bytes, whatever the server has done, and belongs to no history.
     Outside(ShortReply),
-    /// A call on a volume, which has a row of the step.
+    /// A call on a volume, which is served.
     Asks {
         xid: u32,
         volume: u32,
@@ -57,29 +57,10 @@ pub enum Datagram {
     },
 }
 
-// Whether the step has a row for it.
-fn is_known(call: &Call) -> bool
-    ensures { result ≡ has_row call.now }
-{
-    matches!(
-        call,
-        Call::Getattr { .. }
-            | Call::Setattr { .. }
-            | Call::Lookup { .. }
-            | Call::Readlink { .. }
-            | Call::Read { .. }
-            | Call::Write { .. }
-            | Call::Create { .. }
-            | Call::Remove { .. }
-            | Call::Readdir { .. }
-            | Call::Statfs { .. }
-    )
-}
-
 fn call_on(xid: u32, cred: Cred, volume: u32, call: Call) -> Datagram
     ensures { result ≡ asked_on xid volume cred call }
 {
-    if is_known(&call) {
+    if is_served(&call) {
         Datagram::Asks {
             xid,
             volume,

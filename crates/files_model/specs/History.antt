@@ -1,5 +1,5 @@
 -- Histories of calls on a volume.
-use Rattle.std.specs.Prelude.{◌≡◌, ℕ, ◌+◌, true, List, [], ◌∷◌, map}
+use Rattle.std.specs.Prelude.{◌≡◌, ℕ, ◌+◌, List, [], ◌∷◌, map}
 use Rattle.files_model.specs.declared.address.Address.{Address}
 use Rattle.files_model.specs.declared.call.Call.{Call}
 use Rattle.files_model.specs.declared.credential.Cred.{Cred}
@@ -7,7 +7,7 @@ use Rattle.files_model.specs.declared.reply.Reply.{Reply}
 use Rattle.files_model.specs.declared.reply.Reply.TheVariants as reply
 use Rattle.files_model.specs.declared.reply.Stat.TheVariants as stat
 use Rattle.files_model.specs.Files.{Files}
-use Rattle.files_model.specs.Step.{step, has_row}
+use Rattle.files_model.specs.Step.{step}
 use Rattle.files_model.specs.Torn.{Asked, Torn}
 
 -- a call as it came: its transaction number, its sender, and who calls
@@ -33,7 +33,7 @@ after_event files (Cut calls now left) = left
 
 -- the reply is that of the step, and what failed or was cut leaves files that are torn
 abbrev pub IsLegalNext : Files → Event → Type 0
-IsLegalNext files (Done worker item now reply) = (has_row item.call ≡ true) × (reply ≡ (step files item.call item.cred now).0)
+IsLegalNext files (Done worker item now reply) = reply ≡ (step files item.call item.cred now).0
 IsLegalNext files (Failed worker items now left) = Torn files (map asked_of items) now left
 IsLegalNext files (Cut calls now left) = Torn files calls now left
 

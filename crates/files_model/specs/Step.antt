@@ -1,4 +1,4 @@
--- What a call answers, and the files that it leaves: one row a call (docs/CALLS.md). `has_row` says which are served so far.
+-- What a call answers, and the files that it leaves: one row a call (docs/CALLS.md).
 use Rattle.std.specs.Prelude.{ℕ, Bool, true, false, ◌&&◌, not}
 use Rattle.files_model.specs.declared.credential.Cred.{Cred}
 use Rattle.files_model.specs.declared.reply.Reply.{Reply}
@@ -10,20 +10,6 @@ use Rattle.files_model.specs.NameRows.{lookup_row, create_row, remove_row, renam
 use Rattle.files_model.specs.ReadingRows.{readlink_row, readdir_row, statfs_row}
 unfoldable pub use Rattle.files_model.specs.Answers.{zeros, sector_of, spliced, touched, changes, with_sectors, written, attr_of, first_of, unless, with_node, at_live}
 unfoldable pub use Rattle.files_model.specs.FileRows.{write_refusal, write_row, getattr_row, most_read, content, read_refusal, read_row, setattr_refusal, setattr_row}
-
--- the calls that have a row; a history has no other call
-abbrev pub has_row : Call → Bool
-has_row (call.Getattr file) = true
-has_row (call.Setattr file set) = true
-has_row (call.Read file offset count) = true
-has_row (call.Write file offset bytes) = true
-has_row (call.Lookup dir name) = true
-has_row (call.Create dir name wanted) = true
-has_row (call.Remove dir name) = true
-has_row (call.Readlink file) = true
-has_row (call.Readdir dir cookie count) = true
-has_row (call.Statfs file) = true
-has_row _ = false
 
 -- what a call answers at this time, and the files that it leaves
 abbrev pub step : Files → Call → Cred → ℕ → Reply × Files

@@ -9,7 +9,7 @@ use Rattle.files_model.specs.declared.reply.Reply.{Reply}
 use Rattle.files_model.specs.declared.reply.Reply.TheVariants as reply
 use Rattle.files_model.specs.declared.reply.Stat.TheVariants as stat
 use Rattle.files_model.specs.ReadingRows.{entry_size}
-use Rattle.files_model.specs.Step.{has_row}
+use Rattle.served_calls.specs.Served.{is_served}
 use Rattle.files_model.specs.History.{Event, Item}
 use Rattle.files_model.specs.History.Event.{Done, Failed}
 use Rattle.stable.specs.Store.{StaysOpenable}
@@ -34,7 +34,7 @@ entries_bounded : (list : List Entry) → 12 + sum_by entry_size list ≤ 8192 �
 entries_bounded list few = let same = sum_by-le-sum_by entry_room entry_size list (λ e. omega arith) in omega (arith, same, few)
 
 -- the bytes of a reply fit the room of its call
-pub reply_fits : (xid : ℕ) (c : Call) (r : Reply) (volume : ℕ) → has_row c ≡ true → HasForm c r → length (bytes_of xid r volume) ≤ longest_of c
+pub reply_fits : (xid : ℕ) (c : Call) (r : Reply) (volume : ℕ) → is_served c ≡ true → HasForm c r → length (bytes_of xid r volume) ≤ longest_of c
 reply_fits xid (call.Getattr file) (reply.Refused status) volume row form = let fits = short_fits xid (reply.Refused status) volume tt in omega (arith, fits)
 reply_fits xid (call.Getattr file) (reply.Attr attr) volume row form = let fits = short_fits xid (reply.Attr attr) volume tt in omega (arith, fits)
 reply_fits xid (call.Getattr file) _ volume row form = absurd form
@@ -67,18 +67,18 @@ reply_fits xid (call.Statfs file) (reply.Space blocks free) volume row form = an
 reply_fits xid (call.Statfs file) _ volume row form = absurd form
 reply_fits xid _ r volume row form = absurd (cc)
 
-pub refusal_fits : (xid : ℕ) (c : Call) (volume : ℕ) → has_row c ≡ true → length (bytes_of xid (reply.Refused stat.Io) volume) ≤ longest_of c
+pub refusal_fits : (xid : ℕ) (c : Call) (volume : ℕ) → is_served c ≡ true → length (bytes_of xid (reply.Refused stat.Io) volume) ≤ longest_of c
 refusal_fits xid c volume row = reply_fits xid c (reply.Refused stat.Io) volume row tt
 
 module _ {S : Type 0} (s : Ghosts S) (clocked : IsClocked s.tells s.image s.moment s.left_since)
-    (volume : ℕ) (old new : S) (was is : Bool) (number now : ℕ) (item : Item) (row : has_row item.call ≡ true) (weak : s.tells → IsWeak (frame (s.image new)))
+    (volume : ℕ) (old new : S) (was is : Bool) (number now : ℕ) (item : Item) (row : is_served item.call ≡ true) (weak : s.tells → IsWeak (frame (s.image new)))
     (opens : s.tells → StaysOpenable s.opens_since s.moment old new) where
   -- a reply, of a volume that was hurt or not
   pub served_reply : (r : Reply) (ready : Ready) → ready.to ≡ item.from → ready.bytes ≡ bytes_of item.xid r volume
       → Applies s old new was is item.call item.cred now (outcome.Reply r) → IsServed s volume old new number now item (Done number item now r) ready
   served_reply r ready to bytes applied = record {
     grows = grew_hold s clocked old new (Done number item now r ∷ [])
-        (λ told found. let done = applied.leaves told in record { legal = ((row, done.0), tt); view_is = done.1; weak = weak told })
+        (λ told found. let done = applied.leaves told in record { legal = (done.0, tt); view_is = done.1; weak = weak told })
         (let cause = applied.cause in omega arith)
         (weaker applied.crash (λ d left at found. record { weak = at.files.weak; stands = inl at.files.torn }))
         (λ told. (ends clocked applied.crash told).name)

@@ -5,7 +5,7 @@ use Rattle.files_model.specs.declared.address.Address.{Address}
 use Rattle.files_model.specs.History.{Event, Item, items_of, time_of}
 use Rattle.stable.specs.declared.store.Stable.{Ghosts}
 use Rattle.rig.specs.declared.link.Link.{Ghosts as LinkGhosts}
-use Rattle.files_model.specs.Step.{has_row}
+use Rattle.served_calls.specs.Served.{is_served}
 use Rattle.datagrams.specs.declared.datagram.Datagram.{Datagram as Meaning}
 use Rattle.datagrams.specs.declared.datagram.Datagram.TheVariants.{NoMeaning, Asks}
 use Rattle.nfs_worker.specs.Desk.{Change, change_of, Tells}
@@ -28,7 +28,7 @@ use Rattle.nfs_worker.specs.declared.turning.Turn.TheVariants as turn
 
 -- a call has a row of the step
 abbrev pub HasRow : Meaning → Type 0
-HasRow (Asks xid volume cred call) = has_row call ≡ true
+HasRow (Asks xid volume cred call) = is_served call ≡ true
 HasRow _ = Unit {0}
 
 -- The events are one, of the call that a datagram of this meaning asks of this volume; what is ready is its reply.

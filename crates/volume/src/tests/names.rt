@@ -1,7 +1,7 @@
 //! Names that are made and taken away: a CREATE and a REMOVE in the root of the test volume.
 
 ghost use Rattle.std.specs.Prelude.{◌≡◌, true};
-ghost use Rattle.files_model.specs.Step.{has_row};
+ghost use Rattle.served_calls.specs.Served.{is_served};
 ghost use Rattle.volume.specs.Rests.{Rests};
 
 use super::{FILE, opened, store};
@@ -18,7 +18,7 @@ const ROOT: FileId = FileId {
 
 // A call of the superuser at second 2000.
 fn asked(volume: &mut Volume<Memory>, call: &Call) -> Outcome
-    requires row { has_row call.now ≡ true }
+    requires row { is_served call.now ≡ true }
     requires rests { Rests ⟦<Memory as Stable>⟧ volume.old }
     ensures { Rests ⟦<Memory as Stable>⟧ volume.new }
 {

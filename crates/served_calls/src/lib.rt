@@ -1,0 +1,26 @@
+//! Which calls of NFS the server serves so far.
+#![tactic(auto)]
+
+ghost use Rattle.std.specs.Prelude.{◌≡◌};
+ghost use Rattle.served_calls.specs.Served.{is_served};
+
+use files_model::Call;
+
+/// Whether a call is served (RFC 1094 2.2): all but RENAME, LINK, SYMLINK, MKDIR and RMDIR.
+pub fn is_served(call: &Call) -> bool
+    ensures { result ≡ is_served call.now }
+{
+    matches!(
+        call,
+        Call::Getattr { .. }
+            | Call::Setattr { .. }
+            | Call::Lookup { .. }
+            | Call::Readlink { .. }
+            | Call::Read { .. }
+            | Call::Write { .. }
+            | Call::Create { .. }
+            | Call::Remove { .. }
+            | Call::Readdir { .. }
+            | Call::Statfs { .. }
+    )
+}
