@@ -38,3 +38,28 @@ pub remove_form : (dir : FileId) (name : List ℕ) (r : Reply) → IsDoneReply r
 remove_form dir name (reply.Refused status) is = tt
 remove_form dir name reply.Done is = tt
 remove_form dir name _ is = absurd is
+
+pub mkdir_form : (dir : FileId) (name : List ℕ) (wanted : Sattr) (r : Reply) → IsHandleReply r → HasForm (call.Mkdir dir name wanted) r
+mkdir_form dir name wanted (reply.Refused status) is = tt
+mkdir_form dir name wanted (reply.Handle file attr) is = tt
+mkdir_form dir name wanted _ is = absurd is
+
+pub rmdir_form : (dir : FileId) (name : List ℕ) (r : Reply) → IsDoneReply r → HasForm (call.Rmdir dir name) r
+rmdir_form dir name (reply.Refused status) is = tt
+rmdir_form dir name reply.Done is = tt
+rmdir_form dir name _ is = absurd is
+
+pub link_form : (file : FileId) (dir : FileId) (name : List ℕ) (r : Reply) → IsDoneReply r → HasForm (call.Link file dir name) r
+link_form file dir name (reply.Refused status) is = tt
+link_form file dir name reply.Done is = tt
+link_form file dir name _ is = absurd is
+
+pub symlink_form : (dir : FileId) (name : List ℕ) (text : List ℕ) (wanted : Sattr) (r : Reply) → IsDoneReply r → HasForm (call.Symlink dir name text wanted) r
+symlink_form dir name text wanted (reply.Refused status) is = tt
+symlink_form dir name text wanted reply.Done is = tt
+symlink_form dir name text wanted _ is = absurd is
+
+pub rename_form : (from : FileId) (name : List ℕ) (to : FileId) (new_name : List ℕ) (r : Reply) → IsDoneReply r → HasForm (call.Rename from name to new_name) r
+rename_form from name to new_name (reply.Refused status) is = tt
+rename_form from name to new_name reply.Done is = tt
+rename_form from name to new_name _ is = absurd is

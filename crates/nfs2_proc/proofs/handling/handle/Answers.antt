@@ -6,12 +6,12 @@ use Rattle.nfs2_proc.proofs.handling.handle.Goals as goal
 pub write_reply-requires : goal.write_reply-requires
 write_reply-requires g c =
     let room = c.requires.room in
-    let fits = reply_fits c.args.xid c.args.call.now c.in-Reply.reply c.args.number c.requires.served c.in-Reply.ensures.applied.form in omega (arith, room, fits)
+    let fits = reply_fits c.args.xid c.args.call.now c.in-Reply.reply c.args.number c.in-Reply.ensures.applied.form in omega (arith, room, fits)
 
 pub write_reply-requires-in-Io : goal.write_reply-requires-in-Io
 write_reply-requires-in-Io g c =
     let room = c.requires.room in
-    let fits = refusal_fits c.args.xid c.args.call.now c.args.number c.requires.served in omega (arith, room, fits)
+    let fits = refusal_fits c.args.xid c.args.call.now c.args.number in omega (arith, room, fits)
 
 pub returns-in-Reply-clause-handled : goal.returns-in-Reply-clause-handled
 returns-in-Reply-clause-handled g c = record { came = outcome.Reply c.in-Reply.reply; applied = c.in-Reply.ensures.applied; answered = c.write_reply.ensures }
