@@ -1,2 +1,6 @@
 //! Laws of plans of names whose directory gets longer by new blocks.
 #![tactic(auto)]
+
+mod linking;
+
+pub use linking::a_link_with_new_blocks_is_planned;

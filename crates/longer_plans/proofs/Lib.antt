@@ -1,0 +1,2 @@
+pub mod LongerSets
+pub mod LinkLonger
