@@ -1,2 +1,6 @@
 //! Laws of plans of names whose directory gets longer by new blocks.
 #![tactic(auto)]
+
+mod making_directories;
+
+pub use making_directories::a_new_directory_with_new_blocks_is_planned;

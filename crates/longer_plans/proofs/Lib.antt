@@ -1,0 +1,5 @@
+pub mod Blocks
+pub mod Room
+pub mod LongerDirectory
+pub mod MkdirLonger
+pub mod MkdirLongerSets
