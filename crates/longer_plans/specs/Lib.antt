@@ -1,1 +1,2 @@
 pub mod LongerLinks
+pub mod LongerParent

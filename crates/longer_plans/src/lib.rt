@@ -4,3 +4,6 @@
 mod linking;
 
 pub use linking::a_link_with_new_blocks_is_planned;
+mod making_directories;
+
+pub use making_directories::a_new_directory_with_new_blocks_is_planned;
