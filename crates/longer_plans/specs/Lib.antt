@@ -1,2 +1,3 @@
 pub mod LongerLinks
 pub mod LongerParent
+pub mod SymlinkPuts
