@@ -2,7 +2,6 @@
 
 ghost use Rattle.std.specs.Prelude.{◌≡◌, ◌==◌, ◌<◌, [], ◌∷◌, not, ◌&&◌, IfOk};
 ghost use Rattle.files_model.specs.Answers.{first_of};
-ghost use Rattle.files_model.specs.Names.{name_tests};
 ghost use Rattle.files_model.specs.Permission.{allows, is_directory};
 ghost use Rattle.files_model.specs.declared.permission.Want.TheVariants as want;
 ghost use Rattle.files_model.specs.declared.reply.Stat.TheVariants as stat;
@@ -14,7 +13,7 @@ ghost use Rattle.v7_map.specs.Image.{inode_sector};
 ghost use Rattle.v7_map.specs.Weak.{IsStrong};
 ghost use Rattle.plan_name.specs.Removals.{JudgesRemoval, JudgedWithin};
 
-use crate::names::name_refusal;
+use crate::names::place_refusal;
 use crate::removing_puts::Taking;
 use files_model::{Attr, Cred, FileId, Kind, Name, Stat, Want, may};
 use stable::{Failed, Stable};
@@ -27,19 +26,6 @@ use v7_read::Found;
 pub(crate) enum Judged {
     Refused(Stat),
     Takes(Taking, Inode),
-}
-
-/// The refusal of a name in a directory before it is looked up, if any: ROFS on a read-only volume, NOTDIR in what is no directory, that of the name.
-pub fn place_refusal(read_only: bool, kind: Kind, name: &Name) -> Option<Stat>
-    ensures { result ≡ first_of ((read_only, stat.Rofs) ∷ (not (is_directory kind), stat.Notdir) ∷ name_tests name.now) }
-{
-    if read_only {
-        return Some(Stat::Rofs);
-    }
-    if kind != Kind::Directory {
-        return Some(Stat::Notdir);
-    }
-    name_refusal(name)
 }
 
 // The refusal of what is to lose a name, if any: ISDIR for a directory, ACCES where the caller may not write and search the one it stands in.

@@ -4,6 +4,7 @@ ghost use Rattle.std.specs.Prelude.{◌≡◌, ◌≢◌, ◌<◌, ◌≤◌, �
 ghost use Rattle.files_model.specs.Files.{Node};
 ghost use Rattle.files_model.specs.Names.{new_file};
 ghost use Rattle.files_model.specs.Torn.{Asked};
+ghost use Rattle.files_model.specs.declared.reply.Reply.TheVariants as reply;
 ghost use Rattle.plan_name.specs.Created.{IsHandleReply};
 ghost use Rattle.plan_name.specs.Creating.{FitsIn, IsPlannedMaking, CanBePut, made_answer};
 ghost use Rattle.stable.specs.Counts.{HasCause};
@@ -11,6 +12,7 @@ ghost use Rattle.stable.specs.Looked.{Looked};
 ghost use Rattle.v7_layout.specs.Written.{AddressesFit};
 ghost use Rattle.v7_map.specs.Frame.{frame};
 ghost use Rattle.v7_map.specs.Image.{is_inode, inode_at, inode_sector};
+ghost use Rattle.v7_map.specs.Stored.{stored_attr};
 ghost use Rattle.v7_map.specs.Weak.{IsStrong};
 ghost use Rattle.v7_strokes.specs.Inodes.{made_inode};
 
@@ -51,6 +53,18 @@ pub(crate) fn next_inode<S: Stable>(
     Ok(new_file(wanted, cred, now, generation))
 }
 
+/// The answer that has the handle and attributes of a file with this inode.
+pub(crate) fn handle_reply(ino: u32, inode: &Inode) -> Reply
+    ensures { result ≡ reply.Handle (record { ino = ino; generation = inode.now.generation }) (stored_attr ino inode.now) }
+{
+    let file = FileId {
+        ino,
+        generation: inode.generation,
+    };
+    let attr = attributes_of(ino, inode);
+    Reply::Handle { file, attr }
+}
+
 /// Plans a new file of this i-number in an empty slot (RFC 1094 2.2.10): its inode, the slot, and the directory's inode with its times. Answers its handle
 /// and attributes. Nothing is put.
 pub fn make_in_place<S: Stable>(
@@ -82,10 +96,5 @@ pub fn make_in_place<S: Stable>(
         slot: slot_of(ino as u16, name.bytes()),
     };
     add_in_place(store, plan, ino, &inode, &entry, now)?;
-    let file = FileId {
-        ino,
-        generation: inode.generation,
-    };
-    let attr = attributes_of(ino, &inode);
-    Ok(Reply::Handle { file, attr })
+    Ok(handle_reply(ino, &inode))
 }

@@ -14,10 +14,9 @@ ghost use Rattle.v7_map.specs.Weak.{IsStrong};
 ghost use Rattle.v7_strokes.specs.Inodes.{BlocksFit};
 
 use crate::creating_puts::{Entry, Longer, add_at_end};
-use crate::making::{Spot, next_inode};
-use files_model::{Cred, FileId, Name, Reply, Sattr};
+use crate::making::{Spot, handle_reply, next_inode};
+use files_model::{Cred, Name, Reply, Sattr};
 use stable::{Failed, Plan, Stable};
-use v7_map::attributes_of;
 use v7_strokes::slot_of;
 
 /// Plans a new file of this i-number at the end of its directory (RFC 1094 2.2.10): its inode, the slot, the block of addresses if it changes, and the
@@ -52,10 +51,5 @@ pub fn make_at_end<S: Stable>(
         slot: slot_of(ino as u16, name.bytes()),
     };
     add_at_end(store, plan, ino, &inode, &entry, longer, now)?;
-    let file = FileId {
-        ino,
-        generation: inode.generation,
-    };
-    let attr = attributes_of(ino, &inode);
-    Ok(Reply::Handle { file, attr })
+    Ok(handle_reply(ino, &inode))
 }

@@ -45,6 +45,19 @@ pub fn name_refusal(name: &Name) -> Option<Stat>
     None
 }
 
+/// The refusal of a name in a directory before it is looked up, if any: ROFS on a read-only volume, NOTDIR in what is no directory, that of the name.
+pub fn place_refusal(read_only: bool, kind: Kind, name: &Name) -> Option<Stat>
+    ensures { result ≡ first_of ((read_only, stat.Rofs) ∷ (not (is_directory kind), stat.Notdir) ∷ name_tests name.now) }
+{
+    if read_only {
+        return Some(Stat::Rofs);
+    }
+    if kind != Kind::Directory {
+        return Some(Stat::Notdir);
+    }
+    name_refusal(name)
+}
+
 // Whether the type bits of a mode are those of what is no regular file.
 fn has_other_type(mode: Option<u32>) -> bool
     ensures { result ≡ has_other_type mode }
@@ -63,13 +76,7 @@ fn has_other_type(mode: Option<u32>) -> bool
 pub fn create_refusal(read_only: bool, kind: Kind, name: &Name, mode: Option<u32>) -> Option<Stat>
     ensures { result ≡ first_of ((read_only, stat.Rofs) ∷ (not (is_directory kind), stat.Notdir) ∷ name_tests name.now ++ (has_other_type mode, stat.Perm) ∷ []) }
 {
-    if read_only {
-        return Some(Stat::Rofs);
-    }
-    if kind != Kind::Directory {
-        return Some(Stat::Notdir);
-    }
-    match name_refusal(name) {
+    match place_refusal(read_only, kind, name) {
         Some(status) => return Some(status),
         None => {}
     }

@@ -1,6 +1,4 @@
 use Rattle.std.proofs.Common.{◌≡◌, ℕ, List, sym, ap, subst, ◌∙◌, refl, Some}
-use Rattle.files_model.specs.declared.reply.Reply.TheVariants as reply
-use Rattle.files_model.specs.declared.attributes.Attr.{Attr}
 use Rattle.files_model.specs.Names.{new_file}
 use Rattle.stable.specs.Store.{Image}
 use Rattle.v7_map.specs.Frame.{frame}
@@ -25,6 +23,6 @@ returns-clause-planned g c = λ tells strong asked d target new x.
           (c.in_ok-add_at_end.ensures.planned tells (subst (λ (z : Image). IsStrong (frame z)) (sym same) strong) asked c.args.name.now d (new_file c.args.wanted.now c.args.cred.now c.args.now) target new
           (subst (λ (z : Image). Makes z asked c.args.now c.args.ino c.in_ok-inode.inode entry c.args.name.now d (new_file c.args.wanted.now c.args.cred.now c.args.now)) (sym same) makes)
           x.end x.room (subst (λ (z : Image). LaysOut z entry c.args.longer.now target new) (sym same) (x.lays c.slot_of.result))),
-      ap (λ (a : Attr). reply.Handle (record { ino = c.args.ino; generation = c.in_ok-inode.inode.generation }) a) c.attributes_of-attr.ensures
+      c.handle_reply.ensures
           ∙ fits-answer image asked c.args.now spot.directory.ino c.args.ino spot.index c.args.name.now c.args.wanted.now c.args.cred.now d strong x.may c.in_ok-inode.inode made,
     )
