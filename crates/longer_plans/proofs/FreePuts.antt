@@ -35,7 +35,7 @@ pub text-free : (f : Frame) (text : List ℕ) (k : ℕ) (blocks : List ℕ) → 
 text-free f text k [] h = tt
 text-free f text k (a ∷ rest) h = ((h.0, length-spliced 0 text k zeros (λ z. 512)), text-free f text (k + 1) rest h.1)
 
-text-away : (a : ℕ) (text : List ℕ) (k : ℕ) (blocks : List ℕ) → ((l : ℕ) → l < length blocks → get_or blocks l 0 ≢ a) → AllByRecursion (λ (put : ℕ × List ℕ). put.0 ≢ a) (text_puts text k blocks)
+pub text-away : (a : ℕ) (text : List ℕ) (k : ℕ) (blocks : List ℕ) → ((l : ℕ) → l < length blocks → get_or blocks l 0 ≢ a) → AllByRecursion (λ (put : ℕ × List ℕ). put.0 ≢ a) (text_puts text k blocks)
 text-away a text k [] h = tt
 text-away a text k (b ∷ rest) h = (h 0 (omega arith), text-away a text (k + 1) rest (λ l lt. h (suc l) (omega arith)))
 

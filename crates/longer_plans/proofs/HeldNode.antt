@@ -91,7 +91,7 @@ touches n = ⊎_elim
     ap (λ b. cond b [] (range_with_len 0 ((0 + n + 511) / 512 - 0))) (ne_eqb n 0 nz) ∙ ap (range_with_len 0) none)
     (cases_eq n 0)
 
-text-table : (text : List ℕ) → length text ≤ 1024 → tabulated (λ k. Some (text_sector text k)) (sectors_of (length text)) ≡ with_sectors (changes 0 text empty) empty
+pub text-table : (text : List ℕ) → length text ≤ 1024 → tabulated (λ k. Some (text_sector text k)) (sectors_of (length text)) ≡ with_sectors (changes 0 text empty) empty
 text-table text short = tabled (text_sector text) (sectors_of (length text)) (omega arith) ∙ ap (λ l. with_sectors (map (λ k. (k, text_sector text k)) l) empty) (sym (touches (length text)))
     ∙ (λ z. with_sectors (map (λ k. (k, spliced 0 text k (unwrap_or (sym (get-empty nat_cmp k) z) zeros))) (touched 0 (length text))) empty)
 

@@ -11,4 +11,5 @@ pub mod SymlinkAccepted
 pub mod SymlinkPlans
 pub mod OwnBlocks
 pub mod SymlinkSets
+pub mod SymlinkFirst
 pub mod MoveLonger

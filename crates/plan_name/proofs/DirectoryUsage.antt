@@ -13,7 +13,7 @@ use Rattle.plan_name.specs.Growth.{added_blocks}
 lt_ltb : (a b : ℕ) → a < b → ltb a b ≡ true
 lt_ltb a b lt = grind arith
 
-count_true : (p : ℕ → Bool) (a n : ℕ) → ((b : ℕ) → a ≤ b → b < a + n → p b ≡ true) → count_by p (range_with_len a n) ≡ n
+pub count_true : (p : ℕ → Bool) (a n : ℕ) → ((b : ℕ) → a ≤ b → b < a + n → p b ≡ true) → count_by p (range_with_len a n) ≡ n
 unfolding one
 count_true p a zero h = refl
 count_true p a (suc n) h =
@@ -32,7 +32,7 @@ any_range p a (suc n) k le lt passes = ⊎_elim
     or_yes true = refl
     or_yes false = refl
 
-none_range : (p : ℕ → Bool) (a n : ℕ) → ((b : ℕ) → a ≤ b → b < a + n → p b ≡ false) → list_any p (range_with_len a n) ≡ false
+pub none_range : (p : ℕ → Bool) (a n : ℕ) → ((b : ℕ) → a ≤ b → b < a + n → p b ≡ false) → list_any p (range_with_len a n) ≡ false
 none_range p a zero h = refl
 none_range p a (suc n) h = (λ z. h a (omega arith) (omega arith) z || list_any p (range_with_len (a + 1) n)) ∙ none_range p (a + 1) n (λ b le lt. h b (omega arith) (omega arith))
 

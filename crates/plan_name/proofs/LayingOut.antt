@@ -1,13 +1,16 @@
 -- A directory that is laid out by its places gets longer so.
-use Rattle.std.proofs.Common.{◌≡◌, ◌≢◌, ℕ, ◌+◌, ◌/◌, ◌%◌, ◌<◌, ◌≤◌, min, Bool, true, false, cond, ◌&&◌, ◌==◌, List, ◌++◌, length, get_or, refl, sym, ap, subst, ◌∙◌, arith, ⊎_elim, eqb, leb, ltb, eq-eqb, Option, Some, None, IfSome, IfNone, IsSomeAnd}
+use Rattle.std.proofs.Common.{◌≡◌, ◌≢◌, ℕ, zero, suc, ◌+◌, ◌-◌, ◌/◌, ◌%◌, ◌<◌, ◌≤◌, min, max, Bool, true, false, cond, ◌&&◌, ◌==◌, List, [], ◌∷◌, ◌++◌, length, drop, get_or, refl, sym, ap, subst, ◌∙◌, arith, ⊎_elim, eqb, leb, ltb, eq-eqb, Option, Some, None, IfSome, IfNone, IsSomeAnd}
+use Rattle.std.proofs.lemmas.List.{drop-drop}
 use Rattle.std.proofs.lemmas.Bool.{cases_eq, cases_lt, ne_eqb, eqb-true, lt-ltb, le-leb, leb-true}
 use Rattle.files_model.specs.Batch.{one_if}
 use Rattle.files_model.specs.Files.{sectors_of}
 use Rattle.index_sets.specs.Free.{count_free, IsLowestFrom}
-use Rattle.plan_file.specs.Free.{AreSpare}
-use Rattle.plan_file.specs.Places.{place_within, map_place, ArePlaces}
+use Rattle.plan_file.specs.Free.{AreSpare, count_from}
+use Rattle.plan_file.specs.Places.{place_within, map_place, ArePlaces, AreThrough}
 use Rattle.plan_file.specs.declared.places.Places.{Places}
 use Rattle.plan_file.proofs.Freed.{spare-of}
+use Rattle.plan_file.proofs.Placing.{lowest-next}
+use Rattle.v7_space.proofs.Counting.{count-cons}
 use Rattle.stable.specs.Store.{Image}
 use Rattle.v7_layout.specs.declared.inode.Inode.{Inode}
 use Rattle.v7_map.specs.Frame.{Place, Body, Single, head_of, address_of, frame}
@@ -20,7 +23,7 @@ use Rattle.name_plans.specs.Lengthening.{MapPuts}
 use Rattle.name_plans.specs.Taken.{AreNewBlocks}
 use Rattle.plan_name.specs.Creating.{map_puts}
 use Rattle.plan_name.specs.Growth.{added_blocks}
-use Rattle.plan_name.specs.LayingOut.{AreLowest, MayGrow, needed_blocks, PutsMap, IsLaid, LaysLonger, if_new, one_of, new_list, body_with}
+use Rattle.plan_name.specs.LayingOut.{AreLowest, MayGrow, needed_blocks, PutsMap, IsLaid, LaysLonger, if_new, one_of, new_list, past, past_new, body_with}
 use Rattle.plan_name.specs.declared.creating_puts.Listing.{Listing}
 use Rattle.plan_name.specs.declared.laying_out.Laid.{Laid}
 use Rattle.plan_name.proofs.Targets.{laid_at, laid-target, laid-new, laid-map}
@@ -64,6 +67,79 @@ are-lowest blocks places q laid x = record {
 pub all-lowest : (blocks : List Bool) (places : Places) (q : ℕ) (o : Option Laid) → IfSome o (IsLaid blocks places q) → IfSome o (AreLowest blocks)
 all-lowest blocks places q None x = tt
 all-lowest blocks places q (Some laid) x = are-lowest blocks places q laid x
+
+-- ---- what is free past the new blocks
+
+past-if : (old new : ℕ) → new ≡ old → past (if_new old new) ≡ 0
+past-if old new e = ap (λ b. past (cond b None (Some new))) (eq-eqb old new (sym e))
+
+past-of : (old new : ℕ) → old ≢ new → past (if_new old new) ≡ new + 1
+past-of old new ne = ap (λ b. past (cond b None (Some new))) (ne_eqb old new ne)
+
+-- from later on there are no more
+fewer-dropped : (n : ℕ) (xs : List Bool) → count_free (drop n xs) ≤ count_free xs
+fewer-dropped zero xs = omega arith
+fewer-dropped (suc n) [] = omega arith
+fewer-dropped (suc n) (b ∷ bs) = let c = count-cons (λ (x : Bool). x) b bs in let r = fewer-dropped n bs in omega arith
+
+module _ (blocks : List Bool) (places : Places) (q : ℕ) (through : AreThrough places) (laid : Laid) (x : IsLaid blocks places q laid) where
+  abbrev one_sector : ℕ
+  one_sector = one_if (get_or places.body q 0 == 0)
+
+  abbrev one_map : ℕ
+  one_map = one_if (leb 10 q && (places.single == 0))
+
+  past-is : past_new laid.new ≡ max (past (if_new (get_or places.body q 0) laid.sector)) (past (if_new places.single laid.longer.blocks.single))
+  past-is z = max (past (x.new_sector z)) (past (x.new_map z))
+
+  -- no block is new where the sector isn't
+  none-new : get_or places.body q 0 ≢ 0 → past_new laid.new ≡ 0
+  none-new h = past-is ∙ (λ z. max (past-if (get_or places.body q 0) laid.sector (x.chosen.sector.old h) z) (past-if places.single laid.longer.blocks.single single_stays z))
+    where
+      single_stays : laid.longer.blocks.single ≡ places.single
+      single_stays = ⊎_elim (λ (lt : q < 10). x.chosen.single.direct lt) (λ (ge : 10 ≤ q). x.chosen.single.old (through q ge h)) (cases_lt q 10)
+
+  -- the sector's is the lowest
+  module _ (z : get_or places.body q 0 ≡ 0) where
+    first : count_free blocks ≡ count_from blocks (laid.sector + 1) + 1
+    first = lowest-next blocks 0 laid.sector (x.chosen.sector.new z)
+
+    one : one_sector ≡ 1
+    one = ap one_if (eq-eqb (get_or places.body q 0) 0 z)
+
+    most : past (if_new (get_or places.body q 0) laid.sector) ≤ laid.sector + 1
+    most = ⊎_elim
+        (λ (e : get_or places.body q 0 ≡ laid.sector). let p = past-if (get_or places.body q 0) laid.sector (sym e) in omega arith)
+        (λ (ne : get_or places.body q 0 ≢ laid.sector). let p = past-of (get_or places.body q 0) laid.sector ne in omega arith)
+        (cases_eq (get_or places.body q 0) laid.sector)
+
+    sector-alone : laid.longer.blocks.single ≡ places.single → past_new laid.new ≤ laid.sector + 1
+    sector-alone e = let p = past-is in let a = most in let b = past-if places.single laid.longer.blocks.single e in omega arith
+
+    with-map : places.single ≡ 0 → 10 ≤ q → (count_from blocks (laid.sector + 1) ≡ count_from blocks (laid.longer.blocks.single + 1) + 1) × (past_new laid.new ≤ laid.longer.blocks.single + 1)
+    with-map s ge =
+        let low = x.chosen.single.new s ge in let above : laid.sector + 1 ≤ laid.longer.blocks.single = low.0 in
+        let p = past-is in let a = most in let b = past-of places.single laid.longer.blocks.single (λ e. omega arith) in
+        (lowest-next blocks (laid.sector + 1) laid.longer.blocks.single low, omega arith)
+
+  from-less : (a b : ℕ) → a ≤ b → count_from blocks b ≤ count_from blocks a
+  from-less a b le = let split : a + (b - a) ≡ b = omega arith in
+      subst (λ n. n ≤ count_from blocks a) (ap count_free (drop-drop (b - a) a blocks) ∙ ap (count_from blocks) split) (fewer-dropped (b - a) (drop a blocks))
+
+  pub left-needed : count_free blocks ≤ count_from blocks (past_new laid.new) + needed_blocks places q
+  left-needed = ⊎_elim
+      (λ (z : get_or places.body q 0 ≡ 0).
+      let f = first z in let o = one z in
+      ⊎_elim
+      (λ (s : places.single ≡ 0). ⊎_elim
+      (λ (lt : q < 10). let m = from-less (past_new laid.new) (laid.sector + 1) (sector-alone z (x.chosen.single.direct lt)) in omega arith)
+      (λ (ge : 10 ≤ q). let w = with-map z s ge in let n = w.0 in let m = from-less (past_new laid.new) (laid.longer.blocks.single + 1) w.1 in
+      let more : one_map ≡ 1 = (λ t. one_if (le-leb 10 q ge t && eq-eqb places.single 0 s t)) in omega arith)
+      (cases_lt q 10))
+      (λ (ns : places.single ≢ 0). let m = from-less (past_new laid.new) (laid.sector + 1) (sector-alone z (x.chosen.single.old ns)) in omega arith)
+      (cases_eq places.single 0))
+      (λ (nz : get_or places.body q 0 ≢ 0). let n = none-new nz in let m = from-less (past_new laid.new) 0 (omega arith) in omega arith)
+      (cases_eq (get_or places.body q 0) 0)
 
 module _ (image : Image) (d : ℕ) (inode : Inode) (blocks inodes : List Bool) (m : MayGrow image d inode blocks inodes) (places : Places) (sectors : ℕ) (long : sectors ≡ length image)
     (at : ArePlaces image (min sectors 1048576) inode places) where
@@ -226,3 +302,8 @@ module _ (image : Image) (d : ℕ) (inode : Inode) (blocks inodes : List Bool) (
   pub lays-so : (o : Option Laid) → IfSome o (IsLaid blocks places (inode.size / 16 / 32)) → IfNone o (AreSpare sectors blocks → count_free blocks < needed_blocks places (inode.size / 16 / 32)) → IsSomeAnd o (LaysLonger image d (inode.size / 16))
   lays-so None x few = absurd (let lt = few (spare-of image sectors blocks inodes m.strong (sym long) m.sets) in let needed = enough-needed in let enough = m.enough in omega arith)
   lays-so (Some laid) x few = lays-longer laid x
+
+  -- and past the new blocks no more are missing than it takes besides
+  pub lays-left : AreThrough places → (o : Option Laid) → IfSome o (IsLaid blocks places (inode.size / 16 / 32)) → IfSome o (λ laid. count_free blocks ≤ count_from blocks (past_new laid.new) + added_blocks inode.size)
+  lays-left through None x = tt
+  lays-left through (Some laid) x = let n = left-needed blocks places (inode.size / 16 / 32) through laid x in let needed = enough-needed in omega arith

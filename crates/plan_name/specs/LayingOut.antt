@@ -1,5 +1,5 @@
 -- Where the blocks of a directory are to stand that gets longer by a slot.
-use Rattle.std.specs.Prelude.{◌≡◌, ◌≢◌, ℕ, ◌+◌, ◌-◌, ◌*◌, ◌<◌, ◌≤◌, min, Bool, true, List, [], ◌∷◌, ◌++◌, length, get_or, Option, Some, None, IfSome, ◌==◌, ◌&&◌, nat_le, if◌then◌else◌}
+use Rattle.std.specs.Prelude.{◌≡◌, ◌≢◌, ℕ, ◌+◌, ◌-◌, ◌*◌, ◌<◌, ◌≤◌, min, max, Bool, true, List, [], ◌∷◌, ◌++◌, length, get_or, Option, Some, None, IfSome, ◌==◌, ◌&&◌, nat_le, if◌then◌else◌}
 use Rattle.files_model.specs.Batch.{one_if}
 use Rattle.files_model.specs.Space.{size_limit}
 use Rattle.index_sets.specs.Free.{IsLowestFrom, count_free}
@@ -87,6 +87,15 @@ one_of (Some a) = a ∷ []
 -- the new blocks, in the order in which they are taken
 abbrev pub new_list : NewBlocks → List ℕ
 new_list new = one_of new.sector ++ one_of new.map
+
+-- one past a block, 0 where there is none
+abbrev pub past : Option ℕ → ℕ
+past None = 0
+past (Some a) = a + 1
+
+-- one past the new blocks, 0 where there are none
+abbrev pub past_new : NewBlocks → ℕ
+past_new new = max (past new.sector) (past new.map)
 
 -- what is laid out by the places of a directory, of which sector q is to be held
 pub record IsLaid (blocks : List Bool) (places : Places) (q : ℕ) (laid : Laid) : Type 0 where

@@ -19,8 +19,8 @@ pub struct Chosen {
     pub single: u32,
 }
 
-// The lowest free block from a number on, None where there is none, or one that no volume of so many sectors can have free.
-fn spare_block(blocks: &FreeSet, from: u32, sectors: u32) -> Option<u32>
+/// The lowest free block from a number on, None where there is none, or one that no volume of so many sectors can have free.
+pub fn spare_block(blocks: &FreeSet, from: u32, sectors: u32) -> Option<u32>
     ensures lowest { IfSome result (λ a. IsLowestFrom blocks.now from (Some a)) }
     ensures within { IfSome result (λ a. (2 ≤ a) × (a < min sectors 1048576)) }
     ensures none { IfNone result (AreSpare sectors blocks.now → IsLowestFrom blocks.now from None) }

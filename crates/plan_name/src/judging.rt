@@ -18,8 +18,9 @@ const FIRST_NUMBER: u32 = 3;
 /// How long a slot of a directory is, in bytes (filsys(5)).
 const SLOT_BYTES: u32 = 16;
 
-// How many bytes a directory has with one entry more. A size of 2 ^ 32 - 16 or more, which no directory has, stays.
-fn size_with_entry(size: u32, at_end: bool) -> u32
+/// How many bytes a directory of this size has with one entry more, which comes at its end or in an empty slot. A size of 2 ^ 32 - 16 or more, which no
+/// directory has, stays.
+pub fn size_with_entry(size: u32, at_end: bool) -> u32
     ensures { size + 16 < 4294967296 → result ≡ (if at_end then size + 16 else size) }
 {
     if at_end {
@@ -28,8 +29,8 @@ fn size_with_entry(size: u32, at_end: bool) -> u32
     size
 }
 
-// How many blocks a directory takes besides with one entry more.
-fn blocks_for_entry(size: u32, at_end: bool) -> u32
+/// How many blocks a directory of this size takes besides with one entry more, which comes at its end or in an empty slot.
+pub fn blocks_for_entry(size: u32, at_end: bool) -> u32
     ensures { result ≡ (if at_end then added_blocks size else 0) }
 {
     if at_end {

@@ -3,9 +3,10 @@
 ghost use Rattle.std.specs.Prelude.{◌≡◌, ◌<◌, ◌≤◌, ◌+◌, ◌-◌, ◌*◌, ◌/◌, ◌^◌, ℕ, Bool, List, min, length, get_or, All, IfSome, IfNone, IsSomeAnd, IfOk};
 ghost use Rattle.index_sets.specs.Free.{count_free};
 ghost use Rattle.name_plans.specs.Taken.{taken};
-ghost use Rattle.plan_file.specs.Free.{AreSpare};
+ghost use Rattle.plan_file.specs.Free.{AreSpare, count_from};
 ghost use Rattle.plan_file.specs.Places.{AreWithin, AreThrough};
-ghost use Rattle.plan_name.specs.LayingOut.{MayGrow, needed_blocks, body_with, PutsMap, IsLonger, if_new, one_of, new_list, AreLowest, IsLaid, LaidWithin, LaysLonger};
+ghost use Rattle.plan_name.specs.Growth.{added_blocks};
+ghost use Rattle.plan_name.specs.LayingOut.{MayGrow, needed_blocks, body_with, PutsMap, IsLonger, if_new, one_of, new_list, past, past_new, AreLowest, IsLaid, LaidWithin, LaysLonger};
 ghost use Rattle.stable.specs.Counts.{HasCause};
 ghost use Rattle.stable.specs.Looked.{Looked};
 ghost use Rattle.v7_layout.specs.Numbers.{field};
@@ -145,14 +146,15 @@ fn lay(blocks: &FreeSet, places: &Places, index: usize, sectors: u32) -> Option<
 
 /// Lays out where the blocks of a directory are to stand that gets longer by a slot, by its inode: nothing is new where its last sector isn't full; else
 /// it takes the lowest free block, and with its eleventh sector the next one for its block of addresses. None where too few are free, the directory is
-/// too long already, or no volume of the store can have them free; on a volume with nothing to mend that may get longer, never. Reads at most one
-/// sector; nothing is taken.
+/// too long already, or no volume of the store can have them free; on a volume with nothing to mend that may get longer, never, and past those that are
+/// new no more are missing than `added_blocks` tells. Reads at most one sector; nothing is taken.
 pub fn lay_out<S: Stable>(
     store: &mut S,
     blocks: &FreeSet,
     inode: &Inode,
 ) -> Result<Option<Laid>, Failed>
     ensures lays { S.tells → (d : ℕ) (inodes : List Bool) → MayGrow (S.image store.old) d inode.now blocks.now inodes → IfOk result (λ r. IsSomeAnd r (LaysLonger (S.image store.old) d (inode.now.size / 16))) }
+    ensures left { S.tells → (d : ℕ) (inodes : List Bool) → MayGrow (S.image store.old) d inode.now blocks.now inodes → IfOk result (λ r. IfSome r (λ laid. count_free blocks.now ≤ count_from blocks.now (past_new laid.new) + added_blocks inode.now.size)) }
     ensures lowest { IfOk result (λ r. IfSome r (AreLowest blocks.now)) }
     ensures within { IfOk result (λ r. IfSome r (LaidWithin (S.sector_count store.old))) }
     ensures cause { HasCause (S.faults store.old) (S.faults store.new) result }
@@ -164,6 +166,23 @@ pub fn lay_out<S: Stable>(
         return Ok(None);
     }
     Ok(lay(blocks, &places, index as usize, store.sectors()))
+}
+
+// One past a block, 0 where there is none. The greatest number, which no block has, stays.
+fn past(block: Option<u32>) -> u32
+    ensures { IfSome block (λ a. a + 1 < 2 ^ 32) → result ≡ past block }
+{
+    match block {
+        Some(number) => number.saturating_add(1),
+        None => 0,
+    }
+}
+
+/// One past the new blocks of a directory, 0 where none is new: from there on all free blocks are still free.
+pub fn past_new(new: &NewBlocks) -> u32
+    ensures { IfSome new.now.sector (λ a. a + 1 < 2 ^ 32) → IfSome new.now.map (λ a. a + 1 < 2 ^ 32) → result ≡ past_new new.now }
+{
+    past(new.sector).max(past(new.map))
 }
 
 // Takes a block, if there is one.

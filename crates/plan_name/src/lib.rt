@@ -20,11 +20,12 @@ mod removing;
 mod removing_puts;
 mod standing;
 
+pub use choosing::spare_block;
 pub use creating::plan_create;
 pub use creating_puts::{Entry, Listing, Longer, add_at_end, add_in_place, add_map, add_new_slot};
 pub use growth::added_blocks;
-pub use judging::judge_new;
-pub use laying_out::{Laid, NewBlocks, lay_out, take_new};
+pub use judging::{blocks_for_entry, judge_new, size_with_entry};
+pub use laying_out::{Laid, NewBlocks, lay_out, past_new, take_new};
 pub use making::{Spot, make_in_place};
 pub use making_at_end::make_at_end;
 pub use names::{create_refusal, entry_refusal, name_refusal, place_refusal, standing_refusal};
