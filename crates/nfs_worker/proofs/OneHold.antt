@@ -1,14 +1,11 @@
 -- A call that was made is one event of one hold.
 use Rattle.std.proofs.Common.{◌≡◌, ℕ, ◌+◌, ◌≤◌, List, [], ◌∷◌, Bool, true, refl, sym, inl, arith, length}
-use Rattle.std.proofs.lemmas.List.Sums.{sum_by-le-sum_by}
-use Rattle.std.specs.List.{sum_by}
 use Rattle.files_model.specs.declared.call.Call.{Call}
 use Rattle.files_model.specs.declared.call.Call.TheVariants as call
 use Rattle.files_model.specs.declared.entries.Entry.{Entry}
 use Rattle.files_model.specs.declared.reply.Reply.{Reply}
 use Rattle.files_model.specs.declared.reply.Reply.TheVariants as reply
 use Rattle.files_model.specs.declared.reply.Stat.TheVariants as stat
-use Rattle.files_model.specs.ReadingRows.{entry_size}
 use Rattle.served_calls.specs.Served.{is_served}
 use Rattle.files_model.specs.History.{Event, Item}
 use Rattle.files_model.specs.History.Event.{Done, Failed}
@@ -19,56 +16,17 @@ use Rattle.stable.proofs.Clocked.{weaker, ends}
 use Rattle.v7_map.specs.Frame.{frame}
 use Rattle.v7_map.specs.View.{view}
 use Rattle.v7_map.specs.Weak.{IsWeak}
-use Rattle.nfs2_wire.specs.Bounds.{entry_room}
-use Rattle.nfs2_wire.specs.Replies.{bytes_of, longest_of}
-use Rattle.nfs2_wire.proofs.Lengths.{short_fits, data_fits, answer_fits}
+use Rattle.nfs2_wire.specs.Replies.{bytes_of}
 use Rattle.volume.specs.declared.outcome.Outcome.TheVariants as outcome
 use Rattle.nfs_worker.specs.declared.releasing.Ready.{Ready}
 use Rattle.nfs_worker.specs.Account.{Grew}
-use Rattle.volume.specs.Applied.{HasForm, Applies}
-use Rattle.nfs_worker.specs.Served.{IsServed}
+use Rattle.volume.specs.Applied.{Applies}
+use Rattle.volume.specs.declared.outcome.Outcome.{Outcome}
+use Rattle.nfs2_proc.specs.Handles.{IsAnswered, Handles}
+use Rattle.nfs2_proc.specs.declared.handling.Handled.TheVariants as handled
+use Rattle.nfs_worker.specs.Served.{IsServed, Serves}
+use Rattle.nfs_worker.specs.declared.serving.Served.TheVariants as served
 use Rattle.nfs_worker.proofs.Accounts.{grew_hold, grew_same}
-
--- entries whose sizes fit have room
-entries_bounded : (list : List Entry) → 12 + sum_by entry_size list ≤ 8192 → 12 + sum_by entry_room list ≤ 8192
-entries_bounded list few = let same = sum_by-le-sum_by entry_room entry_size list (λ e. omega arith) in omega (arith, same, few)
-
--- the bytes of a reply fit the room of its call
-pub reply_fits : (xid : ℕ) (c : Call) (r : Reply) (volume : ℕ) → is_served c ≡ true → HasForm c r → length (bytes_of xid r volume) ≤ longest_of c
-reply_fits xid (call.Getattr file) (reply.Refused status) volume row form = let fits = short_fits xid (reply.Refused status) volume tt in omega (arith, fits)
-reply_fits xid (call.Getattr file) (reply.Attr attr) volume row form = let fits = short_fits xid (reply.Attr attr) volume tt in omega (arith, fits)
-reply_fits xid (call.Getattr file) _ volume row form = absurd form
-reply_fits xid (call.Setattr file set) (reply.Refused status) volume row form = let fits = short_fits xid (reply.Refused status) volume tt in omega (arith, fits)
-reply_fits xid (call.Setattr file set) (reply.Attr attr) volume row form = let fits = short_fits xid (reply.Attr attr) volume tt in omega (arith, fits)
-reply_fits xid (call.Setattr file set) _ volume row form = absurd form
-reply_fits xid (call.Read file offset count) (reply.Refused status) volume row form = let fits = short_fits xid (reply.Refused status) volume tt in omega (arith, fits)
-reply_fits xid (call.Read file offset count) (reply.Data attr bytes) volume row form = data_fits xid attr bytes volume form
-reply_fits xid (call.Read file offset count) _ volume row form = absurd form
-reply_fits xid (call.Write file offset bytes) (reply.Refused status) volume row form = short_fits xid (reply.Refused status) volume tt
-reply_fits xid (call.Write file offset bytes) (reply.Attr attr) volume row form = short_fits xid (reply.Attr attr) volume tt
-reply_fits xid (call.Write file offset bytes) _ volume row form = absurd form
-reply_fits xid (call.Lookup dir name) (reply.Refused status) volume row form = answer_fits xid (call.Lookup dir name) (reply.Refused status) volume tt
-reply_fits xid (call.Lookup dir name) (reply.Handle file attr) volume row form = answer_fits xid (call.Lookup dir name) (reply.Handle file attr) volume tt
-reply_fits xid (call.Lookup dir name) _ volume row form = absurd form
-reply_fits xid (call.Create dir name set) (reply.Refused status) volume row form = answer_fits xid (call.Create dir name set) (reply.Refused status) volume tt
-reply_fits xid (call.Create dir name set) (reply.Handle file attr) volume row form = answer_fits xid (call.Create dir name set) (reply.Handle file attr) volume tt
-reply_fits xid (call.Create dir name set) _ volume row form = absurd form
-reply_fits xid (call.Remove dir name) (reply.Refused status) volume row form = answer_fits xid (call.Remove dir name) (reply.Refused status) volume tt
-reply_fits xid (call.Remove dir name) reply.Done volume row form = answer_fits xid (call.Remove dir name) reply.Done volume tt
-reply_fits xid (call.Remove dir name) _ volume row form = absurd form
-reply_fits xid (call.Readlink file) (reply.Refused status) volume row form = answer_fits xid (call.Readlink file) (reply.Refused status) volume tt
-reply_fits xid (call.Readlink file) (reply.Text text) volume row form = answer_fits xid (call.Readlink file) (reply.Text text) volume form
-reply_fits xid (call.Readlink file) _ volume row form = absurd form
-reply_fits xid (call.Readdir dir cookie count) (reply.Refused status) volume row form = answer_fits xid (call.Readdir dir cookie count) (reply.Refused status) volume tt
-reply_fits xid (call.Readdir dir cookie count) (reply.Entries list end) volume row form = answer_fits xid (call.Readdir dir cookie count) (reply.Entries list end) volume (entries_bounded list form)
-reply_fits xid (call.Readdir dir cookie count) _ volume row form = absurd form
-reply_fits xid (call.Statfs file) (reply.Refused status) volume row form = answer_fits xid (call.Statfs file) (reply.Refused status) volume tt
-reply_fits xid (call.Statfs file) (reply.Space blocks free) volume row form = answer_fits xid (call.Statfs file) (reply.Space blocks free) volume tt
-reply_fits xid (call.Statfs file) _ volume row form = absurd form
-reply_fits xid _ r volume row form = absurd (cc)
-
-pub refusal_fits : (xid : ℕ) (c : Call) (volume : ℕ) → is_served c ≡ true → length (bytes_of xid (reply.Refused stat.Io) volume) ≤ longest_of c
-refusal_fits xid c volume row = reply_fits xid c (reply.Refused stat.Io) volume row tt
 
 module _ {S : Type 0} (s : Ghosts S) (clocked : IsClocked s.tells s.image s.moment s.left_since)
     (volume : ℕ) (old new : S) (was is : Bool) (number now : ℕ) (item : Item) (row : is_served item.call ≡ true) (weak : s.tells → IsWeak (frame (s.image new)))
@@ -115,3 +73,21 @@ module _ {S : Type 0} (s : Ghosts S) (clocked : IsClocked s.tells s.image s.mome
       (weaker applied.crash (λ d left at found. record { weak = at.files.weak; view = at.files.view_is }))
       (λ told. (ends clocked applied.crash told).name)
       opens
+
+  -- what a call came to, by the bytes that answer it
+  pub served_bytes : (room : ℕ) (ready : Ready) → ready.to ≡ item.from → Handles s old new was is volume item.xid item.call item.cred now room (handled.Bytes ready.bytes) → Serves s volume old new number now item (served.Ready ready)
+  served_bytes room ready to handled = by handled.came handled.applied handled.answered
+    where
+      by : (came : Outcome) → Applies s old new was is item.call item.cred now came → IsAnswered volume item.xid room came (handled.Bytes ready.bytes) → Serves s volume old new number now item (served.Ready ready)
+      by (outcome.Reply r) applied bytes = (outcome.Reply r, _, refl, served_reply r ready to bytes applied)
+      by outcome.Io applied bytes = (outcome.Io, _, refl, served_io ready to bytes applied)
+      by outcome.NoMemory applied bytes = absurd bytes
+
+  -- there was no memory for it
+  pub served_none : (room left : ℕ) → Handles s old new was is volume item.xid item.call item.cred now room (handled.NoMemory left) → Grew s old new []
+  served_none room left handled = by handled.came handled.applied handled.answered
+    where
+      by : (came : Outcome) → Applies s old new was is item.call item.cred now came → IsAnswered volume item.xid room came (handled.NoMemory left) → Grew s old new []
+      by (outcome.Reply r) applied none = absurd none
+      by outcome.Io applied none = absurd none
+      by outcome.NoMemory applied none = served_nothing applied

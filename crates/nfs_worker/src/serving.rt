@@ -8,12 +8,13 @@ ghost use Rattle.volume.specs.Mounted.{store_of};
 ghost use Rattle.volume.specs.Rests.{Rests};
 
 use crate::releasing::Ready;
-use files_model::{Call, Cred, Reply, Stat};
-use nfs2_wire::{Room, longest, write_reply};
+use files_model::{Call, Cred};
+use nfs2_proc::{Handled, handle};
+use nfs2_wire::{Room, longest};
 use rig::Address;
 use stable::Tended;
 use std::alloc::Global;
-use volume::{Outcome, Volume};
+use volume::Volume;
 
 /// What became of a call.
 #[derive(Drop)]
@@ -46,15 +47,8 @@ pub fn serve_call<S: Tended>(
     let Ok(room) = Room::new(alloc, longest(call)) else {
         return Served::NoMemory;
     };
-    match volume.apply(call, cred, now) {
-        Outcome::Reply(reply) => Served::Ready(Ready {
-            bytes: write_reply(room, xid, &reply, at),
-            to: from,
-        }),
-        Outcome::Io => Served::Ready(Ready {
-            bytes: write_reply(room, xid, &Reply::Refused(Stat::Io), at),
-            to: from,
-        }),
-        Outcome::NoMemory => Served::NoMemory,
+    match handle(volume, at, xid, call, cred, now, room) {
+        Handled::Bytes(bytes) => Served::Ready(Ready { bytes, to: from }),
+        Handled::NoMemory(_) => Served::NoMemory,
     }
 }

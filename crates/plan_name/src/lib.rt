@@ -21,9 +21,7 @@ mod removing_puts;
 mod standing;
 
 pub use creating::plan_create;
-pub use creating_puts::{
-    Entry, Listing, Longer, add_at_end, add_in_place, add_map, add_new_slot,
-};
+pub use creating_puts::{Entry, Listing, Longer, add_at_end, add_in_place, add_map, add_new_slot};
 pub use growth::added_blocks;
 pub use judging::judge_new;
 pub use judging_removal::place_refusal;

@@ -45,18 +45,6 @@ use Rattle.volume.proofs.Resting.{applies_then}
 pub planned_looked : (old mid : Image) (asked : Asked) (now : ℕ) (left : Sets) (made : Planned) → mid ≡ old → IsPlannedCall old asked now left made → IsPlannedCall mid asked now left made
 planned_looked old mid asked now left made same planned = subst (λ (x : Image). IsPlannedCall x asked now left made) (sym same) planned
 
--- ---- the forms of replies
-
-pub handle_form : (dir : FileId) (name : List ℕ) (wanted : Sattr) (r : Reply) → IsHandleReply r → HasForm (Create dir name wanted) r
-handle_form dir name wanted (reply.Refused status) is = tt
-handle_form dir name wanted (reply.Handle file attr) is = tt
-handle_form dir name wanted _ is = absurd is
-
-pub done_form : (dir : FileId) (name : List ℕ) (r : Reply) → IsDoneReply r → HasForm (Remove dir name) r
-done_form dir name (reply.Refused status) is = tt
-done_form dir name reply.Done is = tt
-done_form dir name _ is = absurd is
-
 -- ---- the sets
 
 length-number_back : (number : Option ℕ) (inodes : List Bool) → length (number_back number inodes) ≡ length inodes

@@ -8,6 +8,7 @@ pub mod HasVolume
 pub mod OpenMarks
 pub mod LookingUp
 pub mod Naming
+pub mod NamedCalls
 pub mod Reading
 pub mod Resting
 pub mod Setting

@@ -68,6 +68,11 @@ HasForm (call.Remove dir name) reply.Done = Unit {0}
 HasForm (call.Readlink file) (reply.Text text) = length text ≤ 1024
 HasForm (call.Readdir dir cookie count) (reply.Entries list end) = 12 + sum_by entry_size list ≤ 8192
 HasForm (call.Statfs file) (reply.Space blocks free) = Unit {0}
+HasForm (call.Mkdir dir name wanted) (reply.Handle file attr) = Unit {0}
+HasForm (call.Rmdir dir name) reply.Done = Unit {0}
+HasForm (call.Link file dir name) reply.Done = Unit {0}
+HasForm (call.Symlink dir name text wanted) reply.Done = Unit {0}
+HasForm (call.Rename from name to new_name) reply.Done = Unit {0}
 HasForm c r = ⊥
 
 -- the calls that take memory

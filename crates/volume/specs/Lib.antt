@@ -6,6 +6,7 @@ pub mod Keeps
 pub mod Marks
 pub mod Mends
 pub mod Mounted
+pub mod Names
 pub mod Opened
 pub mod Opens
 pub mod Rests

@@ -8,14 +8,13 @@ ghost use Rattle.volume.specs.Applied.{Applies, hurts};
 ghost use Rattle.volume.specs.Costs.{CostsAtMost, call_cost, most_puts};
 ghost use Rattle.volume.specs.Rests.{RestsOn};
 
-use crate::create::create;
 use crate::getattr::getattr;
 use crate::lookup::lookup;
+use crate::names::change_names;
 use crate::outcome::Outcome;
 use crate::read::read;
 use crate::readdir::readdir;
 use crate::readlink::readlink;
-use crate::remove::remove;
 use crate::setattr::setattr;
 use crate::statfs::statfs;
 use crate::write::write;
@@ -81,8 +80,8 @@ pub fn make_call<S: Stable>(
             bytes,
         } => write(alloc, store, sets, *file, *offset, bytes.bytes(), cred, now),
         Call::Lookup { dir, name } => lookup(store, *dir, name, cred, now),
-        Call::Create { dir, name, set } => create(alloc, store, sets, *dir, name, set, cred, now),
-        Call::Remove { dir, name } => remove(alloc, store, sets, *dir, name, cred, now),
+        Call::Create { .. } => change_names(alloc, store, sets, call, cred, now),
+        Call::Remove { .. } => change_names(alloc, store, sets, call, cred, now),
         Call::Readlink { file } => readlink(alloc, store, *file, cred, now),
         Call::Readdir { dir, cookie, count } => {
             readdir(alloc, store, *dir, *cookie, *count, cred, now)

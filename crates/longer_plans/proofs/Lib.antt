@@ -1,0 +1,13 @@
+pub mod LongerSets
+pub mod LinkLonger
+pub mod Blocks
+pub mod Room
+pub mod LongerDirectory
+pub mod MkdirLonger
+pub mod MkdirLongerSets
+pub mod FreePuts
+pub mod HeldNode
+pub mod SymlinkAccepted
+pub mod SymlinkPlans
+pub mod OwnBlocks
+pub mod SymlinkSets

@@ -1,0 +1,3 @@
+pub mod LongerLinks
+pub mod LongerParent
+pub mod SymlinkPuts

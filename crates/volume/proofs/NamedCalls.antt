@@ -1,0 +1,65 @@
+-- The calls on names, of one form.
+use Rattle.std.proofs.Common.{◌≡◌, ℕ, true, List, refl}
+use Rattle.files_model.specs.declared.attributes.FileId.{FileId}
+use Rattle.files_model.specs.declared.attributes.Sattr.{Sattr}
+use Rattle.files_model.specs.declared.call.Call.{Call}
+use Rattle.files_model.specs.declared.call.Call.TheVariants as call
+use Rattle.files_model.specs.declared.credential.Cred.{Cred}
+use Rattle.files_model.specs.declared.reply.Reply.{Reply}
+use Rattle.files_model.specs.declared.reply.Reply.TheVariants as reply
+use Rattle.files_model.specs.Files.{Files}
+use Rattle.files_model.specs.Step.{is_change}
+use Rattle.plan_name.specs.Created.{IsHandleReply}
+use Rattle.plan_name.specs.Freeing.{IsDoneReply}
+use Rattle.volume.specs.Applied.{HasForm}
+use Rattle.volume.specs.Costs.{call_cost, most_puts}
+use Rattle.volume.specs.Names.{changes_names}
+
+-- each of them changes files
+pub is-change : (c : Call) → changes_names c ≡ true → is_change c ≡ true
+is-change (call.Create dir name wanted) is = refl
+is-change (call.Remove dir name) is = refl
+is-change _ is = absurd (cc)
+
+-- and costs on all files what it costs at most
+pub cost-is : (files : Files) (c : Call) (cred : Cred) (now : ℕ) → changes_names c ≡ true → call_cost files c cred now ≡ most_puts c
+cost-is files (call.Create dir name wanted) cred now is = refl
+cost-is files (call.Remove dir name) cred now is = refl
+cost-is files _ cred now is = absurd (cc)
+
+-- ---- the forms of replies
+
+pub create_form : (dir : FileId) (name : List ℕ) (wanted : Sattr) (r : Reply) → IsHandleReply r → HasForm (call.Create dir name wanted) r
+create_form dir name wanted (reply.Refused status) is = tt
+create_form dir name wanted (reply.Handle file attr) is = tt
+create_form dir name wanted _ is = absurd is
+
+pub remove_form : (dir : FileId) (name : List ℕ) (r : Reply) → IsDoneReply r → HasForm (call.Remove dir name) r
+remove_form dir name (reply.Refused status) is = tt
+remove_form dir name reply.Done is = tt
+remove_form dir name _ is = absurd is
+
+pub mkdir_form : (dir : FileId) (name : List ℕ) (wanted : Sattr) (r : Reply) → IsHandleReply r → HasForm (call.Mkdir dir name wanted) r
+mkdir_form dir name wanted (reply.Refused status) is = tt
+mkdir_form dir name wanted (reply.Handle file attr) is = tt
+mkdir_form dir name wanted _ is = absurd is
+
+pub rmdir_form : (dir : FileId) (name : List ℕ) (r : Reply) → IsDoneReply r → HasForm (call.Rmdir dir name) r
+rmdir_form dir name (reply.Refused status) is = tt
+rmdir_form dir name reply.Done is = tt
+rmdir_form dir name _ is = absurd is
+
+pub link_form : (file : FileId) (dir : FileId) (name : List ℕ) (r : Reply) → IsDoneReply r → HasForm (call.Link file dir name) r
+link_form file dir name (reply.Refused status) is = tt
+link_form file dir name reply.Done is = tt
+link_form file dir name _ is = absurd is
+
+pub symlink_form : (dir : FileId) (name : List ℕ) (text : List ℕ) (wanted : Sattr) (r : Reply) → IsDoneReply r → HasForm (call.Symlink dir name text wanted) r
+symlink_form dir name text wanted (reply.Refused status) is = tt
+symlink_form dir name text wanted reply.Done is = tt
+symlink_form dir name text wanted _ is = absurd is
+
+pub rename_form : (from : FileId) (name : List ℕ) (to : FileId) (new_name : List ℕ) (r : Reply) → IsDoneReply r → HasForm (call.Rename from name to new_name) r
+rename_form from name to new_name (reply.Refused status) is = tt
+rename_form from name to new_name reply.Done is = tt
+rename_form from name to new_name _ is = absurd is
