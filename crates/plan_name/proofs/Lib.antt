@@ -1,25 +1,25 @@
-mod Bytes
-mod Past
-mod Equals
-mod NothingPut
-mod PlannedCall
-mod RemovingBuilt
-mod FoundDirectory
-mod RemovingJudged
-mod BlocksOf
-mod RemovingPlanned
-mod Fitting
-mod CreatingBuilt
-mod CreatingLaid
-mod Usable
-mod DirectoryUsage
-mod Judged
-mod CreatingJudged
-mod Made
-mod NewInPlace
-mod StandingPlan
-mod CreatingPlanned
-mod ChosenBlocks
-mod Targets
-mod LayingOut
-mod NewAtEnd
+pub mod Bytes
+pub mod Past
+pub mod Equals
+pub mod NothingPut
+pub mod PlannedCall
+pub mod RemovingBuilt
+pub mod FoundDirectory
+pub mod RemovingJudged
+pub mod BlocksOf
+pub mod RemovingPlanned
+pub mod Fitting
+pub mod CreatingBuilt
+pub mod CreatingLaid
+pub mod Usable
+pub mod DirectoryUsage
+pub mod Judged
+pub mod CreatingJudged
+pub mod Made
+pub mod NewInPlace
+pub mod StandingPlan
+pub mod CreatingPlanned
+pub mod ChosenBlocks
+pub mod Targets
+pub mod LayingOut
+pub mod NewAtEnd
