@@ -18,7 +18,10 @@ use Rattle.v7_entries.specs.Found.{IsNamedSlot, IsEmptySlot, FindsEmpty}
 use Rattle.v7_entries.specs.declared.empty.EmptySlot.{EmptySlot}
 use Rattle.v7_entries.specs.declared.named.NamedSlot.{NamedSlot}
 use Rattle.plan_name.proofs.FoundDirectory.{found-live, found-body, found-slots, found-first, found-sector, found-past, found-number, entry-inode, entry-used}
-use Rattle.name_places.specs.Places.{IsTakenBy, IsFreeAt, IsFreeAtEnd}
+use Rattle.std.specs.Prelude.{Result, IfOk}
+use Rattle.stable.specs.declared.failure.Failed.{Failed}
+use Rattle.name_places.specs.Places.{IsTakenBy, IsFreeAt, IsFreeAtEnd, IsNamePlace}
+use Rattle.name_places.specs.declared.place.NamePlace.{NamePlace}
 
 cond_some : (b : Bool) (x k : ℕ) → cond b (Some x) None ≡ Some k → (b ≡ true) × (x ≡ k)
 cond_some true x k e = (refl, cc)
@@ -85,3 +88,10 @@ module _ (image : Image) (dir : FileId) (found : Found) (strong : IsStrong (fram
         absent = absent;
         full = not_below (position_or_len is_none d.slots) (length d.slots) (cond_none (ltb (position_or_len is_none d.slots) (length d.slots)) (position_or_len is_none d.slots) (ap (position is_none) (sym slots_there) ∙ none));
       }
+
+-- what is found after a look is found before it
+pub free-looked : (image after : Image) → after ≡ image → (dir : FileId) (found : Found) (name : List ℕ) (d : Node) (result : Result NamePlace Failed)
+    → (IsStrong (frame after) → IsFile after dir found → live (view after) dir ≡ Some d → IfOk result (IsNamePlace after dir name d))
+    → IsStrong (frame image) → IsFile image dir found → live (view image) dir ≡ Some d → IfOk result (IsNamePlace image dir name d)
+free-looked image after same dir found name d result = subst (λ (x : Image). (IsStrong (frame x) → IsFile x dir found → live (view x) dir ≡ Some d → IfOk result (IsNamePlace x dir name d))
+    → IsStrong (frame image) → IsFile image dir found → live (view image) dir ≡ Some d → IfOk result (IsNamePlace image dir name d)) (sym same) (λ h strong is at. h strong is at)
