@@ -1,5 +1,5 @@
 -- What an RMDIR in a directory that stands comes to, by the records of an image with nothing to mend.
-use Rattle.std.proofs.Common.{◌≡◌, ℕ, ◌-◌, ◌/◌, Bool, true, cond, not, ◌&&◌, List, [], ◌∷◌, drop, Option, Some, None, is_some, refl, sym, ap, subst, ◌∙◌}
+use Rattle.std.proofs.Common.{◌≡◌, ℕ, ◌-◌, ◌/◌, Bool, true, false, cond, not, ◌&&◌, List, [], ◌∷◌, drop, Option, Some, None, is_some, refl, sym, ap, subst, ◌∙◌}
 use Rattle.std.specs.FinMap.{get, insert, remove}
 use Rattle.std.specs.List.{position, list_any}
 use Rattle.files_model.specs.declared.attributes.Attr.{Attr}
@@ -142,8 +142,14 @@ module _ (image : Image) (dir : FileId) (name : List ℕ) (cred : Cred) (found :
       unfolding frame
       directory e = sym (kind_directory ((inode_at image child.entry.ino).mode / 4096)) ∙ (λ z. is_directory (kind_of ((sym x.inode z).mode / 4096))) ∙ e
 
-      pub judged-body : is_directory (kind_of (child.inode.mode / 4096)) ≡ true → HasBody image child.inode
-      judged-body e = subst (HasBody image) (sym x.inode) (weak_body image child.entry.ino strong.weak (directory e))
+      body : is_directory (kind_of (child.inode.mode / 4096)) ≡ true → HasBody image child.inode
+      body e = subst (HasBody image) (sym x.inode) (weak_body image child.entry.ino strong.weak (directory e))
+
+      -- what its tests come to, as they were made
+      pub judged-tests : (now : Image) → now ≡ image → (parent : Attr) → parent ≡ stored_attr dir.ino found.inode → (refusal : Option Stat)
+          → ((is_directory (kind_of (child.inode.mode / 4096)) ≡ true → HasBody now child.inode) → refusal ≡ first_of (leaving_tests now parent child.inode cred))
+          → first_of (leaving_tests image (stored_attr dir.ino found.inode) child.inode cred) ≡ refusal
+      judged-tests now same parent p refusal h = sym (h (λ e. subst (λ (y : Image). HasBody y child.inode) (sym same) (body e)) ∙ (λ z. first_of (leaving_tests (same z) (p z) child.inode cred)))
 
       pub judged-loss : (status : Stat) → first_of (leaving_tests image (stored_attr dir.ino found.inode) child.inode cred) ≡ Some status → Refuses image dir name cred status
       judged-loss status e now = row-loss (view image) dir name cred now d live_d (tests ∙ passed) child.entry.slot (node_at image child.entry.ino) status x.first node (loss ∙ e)
