@@ -1,5 +1,5 @@
 -- An RMDIR is planned, and what it frees goes back to the sets.
-use Rattle.std.proofs.Common.{◌≡◌, ℕ, Bool, true, false, if◌then◌else◌, List, Option, Some, None, refl, sym, ap, subst, ◌∙◌, ltb, unwrap_or}
+use Rattle.std.proofs.Common.{◌≡◌, ℕ, Bool, true, false, if◌then◌else◌, List, Some, None, refl, sym, ap, subst, ◌∙◌, ltb, unwrap_or}
 use Rattle.std.specs.FinMap.{get}
 use Rattle.files_model.specs.declared.attributes.FileId.{FileId}
 use Rattle.files_model.specs.declared.call.Call.TheVariants.{Rmdir}

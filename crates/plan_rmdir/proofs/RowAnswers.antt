@@ -16,7 +16,6 @@ use Rattle.files_model.specs.NameRows.{rmdir_row, place_tests, has_entries}
 use Rattle.files_model.specs.Names.{has_name, number_at, at_node, at_slot, name_tests, without_entry, may_change}
 use Rattle.files_model.specs.Permission.{allows, is_directory}
 use Rattle.stable.specs.Store.{Image}
-use Rattle.v7_layout.specs.declared.inode.Inode.{Inode}
 use Rattle.v7_read.specs.Found.{IsFile}
 use Rattle.v7_read.specs.declared.found.Found.{Found}
 use Rattle.v7_map.specs.Frame as frames

@@ -1,4 +1,4 @@
-use Rattle.std.proofs.Common.{◌≡◌, not, ◌∷◌, sym, ap, subst, ◌∙◌}
+use Rattle.std.proofs.Common.{not, ◌∷◌, sym, ap, subst, ◌∙◌}
 use Rattle.files_model.specs.declared.attributes.Attr.{Attr}
 use Rattle.files_model.specs.declared.reply.Stat.TheVariants as stat
 use Rattle.files_model.specs.Answers.{first_of}
