@@ -60,7 +60,7 @@ fn volume(alloc: Global, number: u16) -> Result<Memory, Fail>
     Ok(store)
 }
 
-fn caller(uid: u32) -> Cred {
+fn caller(uid: u16) -> Cred {
     Cred {
         uid,
         gid: uid,
