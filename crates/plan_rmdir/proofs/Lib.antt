@@ -1,0 +1,4 @@
+mod FoundChild
+mod RowAnswers
+mod BuiltPuts
+mod PlannedRmdir
