@@ -11,3 +11,4 @@ pub mod SymlinkAccepted
 pub mod SymlinkPlans
 pub mod OwnBlocks
 pub mod SymlinkSets
+pub mod MoveLonger

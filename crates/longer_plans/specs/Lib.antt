@@ -1,3 +1,4 @@
 pub mod LongerLinks
 pub mod LongerParent
 pub mod SymlinkPuts
+pub mod LongerMoves
