@@ -1,0 +1,7 @@
+mod Steps
+pub mod Numbers
+mod Sides
+mod Built
+mod BuiltName
+mod BuiltMove
+mod BuiltReplacement
