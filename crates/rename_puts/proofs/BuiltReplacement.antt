@@ -113,9 +113,9 @@ module _ (image : Image) (call : Renaming) (now : ℕ) (moved : Moved) (lost : L
 
       all : puts ≡ merged (replacing_puts image call.from.ino call.to.ino k l r h.new_bytes h.old_bytes ds es t.bytes u.bytes b)
       all = u.puts ∙ ap merged (
-        append_assoc (raw ++ inode_puts ds t.bytes) (inode_put r b ∷ []) (inode_puts es u.bytes)
-        ∙ append_assoc raw (inode_puts ds t.bytes) (inode_put r b ∷ inode_puts es u.bytes)
-        ∙ moved-raw image moved first h call.from.ino call.to.ino k l x.number call.new_name refl refl x.stands.old_sector x.stands.new_sector x.stands.holds stays (inode_puts ds t.bytes ++ inode_put r b ∷ inode_puts es u.bytes))
+          append_assoc (raw ++ inode_puts ds t.bytes) (inode_put r b ∷ []) (inode_puts es u.bytes)
+          ∙ append_assoc raw (inode_puts ds t.bytes) (inode_put r b ∷ inode_puts es u.bytes)
+          ∙ moved-raw image moved first h call.from.ino call.to.ino k l x.number call.new_name refl refl x.stands.old_sector x.stands.new_sector x.stands.holds stays (inode_puts ds t.bytes ++ inode_put r b ∷ inode_puts es u.bytes))
 
   abbrev from_low : ℕ
   from_low = min moved.old.directory moved.new.directory

@@ -80,20 +80,26 @@ some_if P true d h = h
 some_if P false d h = tt
 
 pub of-before : (P : ℕ → Type 0) (low high r : ℕ) → P low → P high → IfSome (before low high r).first P × IfSome (before low high r).second P
-of-before P low high r x y = (some_if P (ltb low r) low x, elim (ltb low high) as (λ t. IfSome (if t then (if ltb high r then Some high else None) else None) P) [
-  | true ↦ some_if P (ltb high r) high y
-  | false ↦ tt
-])
+of-before P low high r x y = (
+  some_if P (ltb low r) low x,
+  elim (ltb low high) as (λ t. IfSome (if t then (if ltb high r then Some high else None) else None) P) [
+    | true ↦ some_if P (ltb high r) high y
+    | false ↦ tt
+  ],
+)
 
 none_if : (P : ℕ → Type 0) (b : Bool) (d : ℕ) → P d → IfSome (if b then None else Some d) P
 none_if P true d h = tt
 none_if P false d h = h
 
 pub of-after : (P : ℕ → Type 0) (low high r : ℕ) → P low → P high → IfSome (after low high r).first P × IfSome (after low high r).second P
-of-after P low high r x y = (none_if P (ltb low r) low x, elim (ltb low high) as (λ t. IfSome (if t then (if ltb high r then None else Some high) else None) P) [
-  | true ↦ none_if P (ltb high r) high y
-  | false ↦ tt
-])
+of-after P low high r x y = (
+  none_if P (ltb low r) low x,
+  elim (ltb low high) as (λ t. IfSome (if t then (if ltb high r then None else Some high) else None) P) [
+    | true ↦ none_if P (ltb high r) high y
+    | false ↦ tt
+  ],
+)
 
 pub sides-few : (low high r : ℕ) → length (listed (before low high r)) + length (listed (after low high r)) ≤ 2
 sides-few low high r = few low high (ltb low r) (ltb low high) (ltb high r)
