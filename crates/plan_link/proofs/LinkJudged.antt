@@ -87,8 +87,8 @@ module _ (image : Image) (file dir : FileId) (name : List ℕ) (ends : Ends) (st
     judged-taken slot taken cred now =
         refused-taken (view image) file dir name cred now (node_at image file.ino) (node_at image dir.ino) (found-live image file ends.node strong at_file) (found-live image dir ends.directory strong at) passed slot.slot taken.first
 
-    pub judged-spot : (spot : Spot) → IsFreeAt image dir name (node_at image dir.ino) spot → (spot.directory ≡ dir) × LinksAtSpot image file dir name spot
-    judged-spot spot free = (free.directory, record { may = may free.absent; place = free.place; inside = free.inside; sector = free.sector })
+    pub judged-spot : (spot : Spot) → IsFreeAt image dir name (node_at image dir.ino) spot → LinksAtSpot image file dir name (record { directory = dir; index = spot.index; sector = spot.sector })
+    judged-spot spot free = record { may = may free.absent; place = free.place; inside = free.inside; sector = free.sector }
 
     pub judged-end : IsFreeAtEnd name (node_at image dir.ino) → LinksPastSlots image file dir name
     judged-end free = record { may = may free.absent; full = free.full }

@@ -116,12 +116,21 @@ module _ (image : Image) (file dir : FileId) (name : List ℕ) (cred : Cred) (no
     }
 
     -- what is judged is what the step tests
-    module _ (o : Option Stat) (judged : o ≡ first_of (entry_tests dir.ino (node_at image dir.ino) cred 0 ++ (leb most_links ends.node.inode.nlink
-        || is_full_for (view image) (node_at image dir.ino) (with_entry (node_at image dir.ino) (Some (file.ino, name)) now), stat.Nospc) ∷ [])) where
-      tests : first_of (entry_tests dir.ino (node_at image dir.ino) cred 0 ++ (leb most_links (node_at image file.ino).nlink
-          || is_full_for (view image) (node_at image dir.ino) (with_entry (node_at image dir.ino) (Some (file.ino, name)) now), stat.Nospc) ∷ []) ≡ o
-      tests = sym (judged ∙ ap (λ l. first_of (entry_tests dir.ino (node_at image dir.ino) cred 0 ++ (leb most_links l
-          || is_full_for (view image) (node_at image dir.ino) (with_entry (node_at image dir.ino) (Some (file.ino, name)) now), stat.Nospc) ∷ [])) links_is)
+    module _ (o : Option Stat) (judged : o ≡ first_of (entry_tests dir.ino (node_at image dir.ino) cred 0 ++ (
+      leb most_links ends.node.inode.nlink
+          || is_full_for (view image) (node_at image dir.ino) (with_entry (node_at image dir.ino) (Some (file.ino, name)) now),
+      stat.Nospc,
+    ) ∷ [])) where
+      tests : first_of (entry_tests dir.ino (node_at image dir.ino) cred 0 ++ (
+        leb most_links (node_at image file.ino).nlink
+            || is_full_for (view image) (node_at image dir.ino) (with_entry (node_at image dir.ino) (Some (file.ino, name)) now),
+        stat.Nospc,
+      ) ∷ []) ≡ o
+      tests = sym (judged ∙ ap (λ l. first_of (entry_tests dir.ino (node_at image dir.ino) cred 0 ++ (
+        leb most_links l
+            || is_full_for (view image) (node_at image dir.ino) (with_entry (node_at image dir.ino) (Some (file.ino, name)) now),
+        stat.Nospc,
+      ) ∷ [])) links_is)
 
       -- a refusal plans nothing
       pub link-refused : (status : Stat) → o ≡ Some status → (left : Sets) (made : Planned) → AreSetsOf image left.blocks left.inodes → made.plan ≡ record { puts = []; room = 0 } → made.reply ≡ reply.Refused status

@@ -56,8 +56,8 @@ JudgesLink image file dir name (judged.Refused status) = RefusesLink image file 
 JudgesLink image file dir name (judged.InPlace spot) = (spot.directory ≡ dir) × LinksAtSpot image file dir name spot
 JudgesLink image file dir name judged.AtEnd = LinksPastSlots image file dir name
 
--- a slot can have the name, and stands past the super-block within so many sectors
-abbrev pub JudgedWithin : ℕ → List ℕ → Judged → Type 0
-JudgedWithin sectors name (judged.Refused status) = Unit {0}
-JudgedWithin sectors name (judged.InPlace spot) = (2 ≤ spot.sector) × (spot.sector < sectors) × FitsSlot name
-JudgedWithin sectors name judged.AtEnd = FitsSlot name
+-- a slot of this directory can have the name, and stands past the super-block within so many sectors
+abbrev pub JudgedWithin : ℕ → FileId → List ℕ → Judged → Type 0
+JudgedWithin sectors dir name (judged.Refused status) = Unit {0}
+JudgedWithin sectors dir name (judged.InPlace spot) = (spot.directory ≡ dir) × (2 ≤ spot.sector) × (spot.sector < sectors) × FitsSlot name
+JudgedWithin sectors dir name judged.AtEnd = FitsSlot name

@@ -62,7 +62,7 @@ pub(crate) fn judge_link<S: Stable>(
     name: &Name,
 ) -> Result<Judged, Failed>
     ensures judged { S.tells → IsStrong (frame (S.image store.old)) → IsFile (S.image store.old) file ends.now.node → IsFile (S.image store.old) dir ends.now.directory → IfOk result (JudgesLink (S.image store.old) file dir name.now) }
-    ensures within { IfOk result (JudgedWithin (S.sector_count store.old) name.now) }
+    ensures within { IfOk result (JudgedWithin (S.sector_count store.old) dir name.now) }
     ensures cause { HasCause (S.faults store.old) (S.faults store.new) result }
     ensures looked { Looked S.Stable store.old store.new }
 {
@@ -75,7 +75,10 @@ pub(crate) fn judge_link<S: Stable>(
     }
     match find_place(store, dir, &ends.directory, name)? {
         NamePlace::Taken(_) => Ok(Judged::Refused(Stat::Exist)),
-        NamePlace::Empty(spot) => Ok(Judged::InPlace(spot)),
+        NamePlace::Empty(spot) => Ok(Judged::InPlace(Spot {
+            directory: dir,
+            ..spot
+        })),
         NamePlace::End => Ok(Judged::AtEnd),
     }
 }

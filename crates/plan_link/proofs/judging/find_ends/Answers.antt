@@ -21,6 +21,8 @@ returns-in_default-2-clause-found g c = λ tells strong.
 pub returns-clause-found : goal.returns-clause-found
 returns-clause-found g c = λ tells strong.
     let image : Image = g.S.Stable.image c.args.store.now in
-    let same = c.in_ok-node.ensures.looked.image in
-    (subst (Finds image c.args.file) c.in-Some.is (c.in_ok-node.ensures.found tells strong), subst (Finds image c.args.dir) c.in-Some-2.is (subst (λ (z : Image). Finds z c.args.dir c.in_ok-directory.field-0) same
-    (c.in_ok-directory.ensures.found tells (subst (λ (z : Image). IsStrong (frame z)) (sym same) strong))))
+    let same = c.in_ok-node.ensures.looked.image in (
+      subst (Finds image c.args.file) c.in-Some.is (c.in_ok-node.ensures.found tells strong),
+      subst (Finds image c.args.dir) c.in-Some-2.is (subst (λ (z : Image). Finds z c.args.dir c.in_ok-directory.field-0) same
+          (c.in_ok-directory.ensures.found tells (subst (λ (z : Image). IsStrong (frame z)) (sym same) strong))),
+    )

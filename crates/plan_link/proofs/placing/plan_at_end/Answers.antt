@@ -54,9 +54,9 @@ returns-clause-planned g c = λ tells strong are at_file at here.
     let link = link-accepted image c.args.file dir c.args.name.now c.args.cred.now c.args.now c.args.ends.now strong at_file at here.may sets.blocks sets.inodes are None
     (c.in-None.ensures image dir.ino d sets.inodes told c.args.file.ino c.args.now c.args.name.now) refl in
     let grow = link-grows image c.args.file dir c.args.name.now c.args.cred.now c.args.now c.args.ends.now strong at_file at here.may sets.blocks sets.inodes are link here.full in
-    let lays : LaysLonger image dir.ino (c.args.ends.now.directory.inode.size / 16) c.in-Some-lay_out.laid = subst (λ (o : Option Laid). IsSomeAnd o (LaysLonger image dir.ino (c.args.ends.now.directory.inode.size / 16))) c.in-Some-lay_out.is
+    let lays : LaysLonger image dir.ino (c.args.ends.now.directory.inode.size / 16) c.in-Some-2.laid = subst (λ (o : Option Laid). IsSomeAnd o (LaysLonger image dir.ino (c.args.ends.now.directory.inode.size / 16))) c.in-Some-2.is
     (c.in_ok-laid.ensures.lays tells dir.ino sets.inodes grow) in
-    let laid = c.in-Some-lay_out.laid in
+    let laid = c.in-Some-2.laid in
     let same : S.image c.lay_out.new.store ≡ image = c.in_ok-laid.ensures.looked.image in
     let new : NewLink = record { file = c.args.file; spot = record { directory = dir; index = c.args.ends.now.directory.inode.size / 16; sector = laid.sector }; slot = c.slot_of.result } in
     let links : Links image new c.args.name.now c.args.cred.now c.args.now n d = record {
@@ -73,4 +73,4 @@ returns-clause-planned g c = λ tells strong are at_file at here.
     record { plan = c.add_at_end.new.plan; reply = reply.Done; freed = c.none_freed.result } c.take_new.ensures refl made refl c.none_freed.ensures.blocks c.none_freed.ensures.inode
 
 pub returns-clause-takes : goal.returns-clause-takes
-returns-clause-takes g c = blocks-taken_from c.args.sets.now (new_list c.in-Some-lay_out.laid.new) c.take_new.new.blocks c.take_new.ensures
+returns-clause-takes g c = blocks-taken_from c.args.sets.now (new_list c.in-Some-2.laid.new) c.take_new.new.blocks c.take_new.ensures
