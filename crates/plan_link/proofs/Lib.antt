@@ -1,0 +1,6 @@
+mod LinkBuilt
+mod LinkLaid
+mod LinkRow
+mod EntryJudged
+mod LinkJudged
+mod LinkPlanned
