@@ -1,0 +1,10 @@
+pub mod FirstSector
+pub mod JudgedNew
+pub mod NewInode
+pub mod BuiltInPlace
+pub mod BuiltAtEnd
+pub mod Fitting
+pub mod MadeNew
+pub mod NewBlock
+pub mod FreeName
+pub mod MkdirPlanned

@@ -1,0 +1,5 @@
+pub mod Judging
+pub mod Inodes
+pub mod Making
+pub mod Spare
+pub mod Free
