@@ -1,2 +1,11 @@
 //! The plan of a SYMLINK.
 #![tactic(auto)]
+
+mod judging;
+mod links_at_end;
+mod links_in_place;
+mod making;
+mod new_link;
+mod puts;
+mod text_blocks;
+mod text_puts;

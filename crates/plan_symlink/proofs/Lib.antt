@@ -1,0 +1,9 @@
+mod Appends
+mod Blocks
+mod Built
+mod LinkUsage
+mod Judged
+mod LinkMade
+mod Fitting
+mod Planned
+mod RowAnswers

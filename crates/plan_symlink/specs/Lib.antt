@@ -1,0 +1,3 @@
+pub mod TextBlocks
+pub mod Judging
+pub mod Making
