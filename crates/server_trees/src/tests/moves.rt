@@ -103,12 +103,12 @@ fn nothing_is_put_where_both_names_are_of_one_file(rt: HostRuntime) -> Result<()
     let Some(same) = answered(alloc, rig(alloc, FRESH)?, &SUPERUSER, &TO_ITSELF)? else {
         panic!(rt; "another reply");
     };
-    assert!(rt; has_files(&same, &test_volume(alloc, FRESH)?, 64));
+    assert!(rt; has_files(&same, &test_volume(alloc, FRESH)?, 7));
     let linked = rig_with(alloc, linked_disk(alloc)?);
     let Some(same) = answered(alloc, linked, &SUPERUSER, &TO_THE_SAME)? else {
         panic!(rt; "another reply");
     };
-    assert!(rt; has_files(&same, &linked_disk(alloc)?, 64));
+    assert!(rt; has_files(&same, &linked_disk(alloc)?, 7));
     Ok(())
 }
 

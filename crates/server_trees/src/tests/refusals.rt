@@ -84,7 +84,7 @@ fn what_is_refused_changes_nothing(rt: HostRuntime) -> Result<(), Fail> {
         };
         rig = same;
     }
-    assert!(rt; has_files(&rig, &pair_disk(alloc)?, 64));
+    assert!(rt; has_files(&rig, &pair_disk(alloc)?, 9));
     Ok(())
 }
 
