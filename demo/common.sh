@@ -371,3 +371,53 @@ holds() {
     done
     dd if="$disk" bs=1024 skip=$((5 * 512)) iflag=skip_bytes count=1 status=none | cmp -s - "$folder/wanted"
 }
+
+# ---- calls by user 0
+
+# head_of XID PROGRAM VERSION PROCEDURE: the words of a call by user 0, up to its arguments.
+head_of() {
+    bytes "$1" 00000000 00000002 "$2" "$3" "$4" \
+        00000001 00000018 00000000 00000001 63000000 00000000 00000000 00000000 \
+        00000000 00000000
+}
+
+# text TEXT: its length and its bytes, padded to a whole number of words.
+text() {
+    local digits
+    digits=$(text_hex "$1")
+    while [ $((${#digits} % 8)) -ne 0 ]; do
+        digits+=00
+    done
+    bytes "$(printf '%08x' ${#1})" "$digits"
+}
+
+# handle_of NUMBER GENERATION: the words of its handle.
+handle_of() {
+    printf '56374e32 00000000 %08x %08x 00000000 00000000 00000000 00000000' "$1" "$2"
+}
+
+# The handle of the root; attributes that are not set.
+root_handle=$(handle_of 2 1)
+unset="ffffffff ffffffff ffffffff ffffffff ffffffff ffffffff ffffffff ffffffff"
+
+# is_answered XID HEX..: the reply is an accepted one with these words.
+is_answered() {
+    local wanted="${1}0000000100000000000000000000000000000000"
+    shift
+    wanted+=$(printf '%s' "$@" | tr -d ' ')
+    if [ "$reply" != "$wanted" ]; then
+        say "wanted:"
+        show "$wanted"
+        fail "the reply is another"
+    fi
+}
+
+# second_at BYTE: the second in the reply, which is the clock's, as `second`.
+second_at() {
+    local now
+    now=$(date +%s)
+    second=${reply:$((2 * $1)):8}
+    if [ $((16#$second)) -gt "$now" ] || [ $((16#$second)) -lt $((now - 10)) ]; then
+        fail "the second in the reply is not the clock's"
+    fi
+}

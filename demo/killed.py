@@ -1,8 +1,8 @@
 """Random calls on a tree of files, as tree.py makes them, of which the last is under way, or just answered, when the server is killed; then what the volume may be.
 
-killed.py PORT SEED CALLS MODEL PID CALL ..: goes on from the model that tree.py kept, makes so many calls of these kinds and one more, and kills the
+killed.py PORT SEED CALLS MODEL PID KIND ..: goes on from the model that tree.py kept, makes so many calls of these kinds and one more, and kills the
 server, the process PID, at once or up to a fifth of a second later. It keeps what the volume may be then.
-killed.py PORT SEED settle MODEL CALL ..: finds which of these the volume is, compares it whole, and keeps that as the model.
+killed.py PORT SEED settle MODEL KIND ..: finds which of these the volume is, compares it whole, and keeps that as the model.
 """
 
 import os
@@ -13,20 +13,16 @@ import sys
 import time
 
 import tree
+from model import DIRECTORY, SECTOR, answer, copied
+from tree import ROOT_USER
+from wire import Client
 
 PAUSES = [0, 0.0005, 0.001, 0.002, 0.004, 0.008, 0.02, 0.2]
-CHANGES = ["setattr", "write", "create", "remove"]
-ROOT_USER = (0, (0,))
+MAKERS = ["create", "symlink", "mkdir"]
+CHANGES = ["setattr", "write", "remove", "rename", "link", "rmdir"] + MAKERS
 
 
-def copied(model):
-    return pickle.loads(pickle.dumps(model))
-
-
-def after_call(model, kind, now, cred, arguments):
-    """The reply at that second, and the files after it."""
-    trial = copied(model)
-    return tree.expected(trial, kind, now, cred, arguments), trial
+# ---- killing
 
 
 def send_and_kill(client, chance, pid, cred, kind, arguments):
@@ -43,19 +39,104 @@ def send_and_kill(client, chance, pid, cred, kind, arguments):
         return None, before, after
 
 
-def cut(client, model, chooser, pid):
-    """What the volume may be: the files before the call and those after it, or the latter alone where the reply came."""
+def next_change(model, chooser):
     kind, cred, arguments = chooser.next(model)
     while kind not in CHANGES:
         kind, cred, arguments = chooser.next(model)
+    return kind, cred, arguments
+
+
+def cut(client, model, chooser, pid):
+    """What the volume may be: the files before the call, those after it, or what a crash may leave of it; those after it alone where the reply came."""
+    kind, cred, arguments = next_change(model, chooser)
     reply, before, after = send_and_kill(client, chooser.chance, pid, cred, kind, arguments)
-    afters = [after_call(model, kind, now, cred, arguments) for now in range(before - 1, after + 1)]
+    afters = [answer(model, kind, now, cred, arguments) for now in range(before - 1, after + 1)]
     if reply is not None:
         afters = [(wanted, trial) for wanted, trial in afters if wanted == reply]
         if not afters:
             raise SystemExit(f"{kind} {cred} {arguments}: came {reply.hex()[:400]}")
     print(f"killed in {kind}, {'without' if reply is None else 'after'} its reply")
     return {"before": model if reply is None else None, "afters": [trial for _, trial in afters], "kind": kind, "arguments": arguments}
+
+
+# ---- what a crash may leave (docs/CALLS.md, "Torn")
+
+
+def times(node):
+    return node.mtime, node.ctime
+
+
+def with_times_found(client, base, before, after):
+    """These files, but each node that stands before and after has the times that are found, where they are its old or its new ones."""
+    found = copied(base)
+    for ino in set(found.nodes) & set(before.nodes) & set(after.nodes):
+        reply, _, _ = client.call(ROOT_USER, "getattr", [(ino, found.generation(ino))])
+        if reply[:4] != bytes(4):
+            continue
+        pair = tuple(struct.unpack_from(">I", reply, 4 + 4 * word)[0] for word in (13, 15))
+        if pair in (times(before.nodes[ino]), times(after.nodes[ino])):
+            found.nodes[ino].mtime, found.nodes[ino].ctime = pair
+    return found
+
+
+def with_sectors_found(client, before, after, arguments):
+    """The files before a WRITE, where each held sector below the old size is the old one or the new one, whichever is found."""
+    found = copied(before)
+    ino, generation = arguments[0]
+    node, new = found.nodes[ino], after.nodes[ino]
+    for index in node.held:
+        begin = index * SECTOR
+        count = max(0, min(SECTOR, node.size - begin))
+        reply, _, _ = client.call(ROOT_USER, "read", [(ino, generation), begin, count])
+        if count and reply[4 + 68 + 4 :][:count] != node.held[index][:count]:
+            node.held[index] = new.held[index][:count].ljust(SECTOR, b"\0")
+    return found
+
+
+def with_both_names(before, after, arguments):
+    """The files after a RENAME with the old slot back, where two slots change and what they name is no directory."""
+    (old, _), name = arguments[:2]
+    index = before.slot_of(before.nodes[old], name)
+    entry = before.nodes[old].slots[index]
+    if after.nodes[old].slots[index] is not None or after.nodes[entry[0]].kind == DIRECTORY:
+        return None
+    both = copied(after)
+    both.nodes[old].slots[index] = entry
+    return both
+
+
+def with_generation_raised(before, after):
+    raised = copied(before)
+    raised.generations = dict(after.generations)
+    return raised
+
+
+def torn(client, before, after, kind, arguments):
+    """What a crash may leave of a call that isn't refused, each with its words."""
+    if kind == "write":
+        yield "as before it, with some of its sectors", with_sectors_found(client, before, after, arguments)
+        return
+    yield "as before it, but for times", with_times_found(client, before, before, after)
+    yield "as after it, but for times", with_times_found(client, after, before, after)
+    if kind in MAKERS:
+        yield "as before it, with the generation alone", with_generation_raised(before, after)
+    if kind == "rename":
+        both = with_both_names(before, after, arguments)
+        if both is not None:
+            yield "with both names", with_times_found(client, both, before, after)
+
+
+def candidates(client, kept):
+    before = kept["before"]
+    if before is not None:
+        yield "as before it", before
+    for after in kept["afters"]:
+        yield "as after it", after
+    if before is None:
+        return
+    for after in kept["afters"]:
+        if pickle.dumps(after) != pickle.dumps(before):
+            yield from torn(client, before, after, kept["kind"], kept["arguments"])
 
 
 # ---- settling
@@ -69,75 +150,31 @@ def is_found(client, model, kinds, names):
     return True
 
 
-def with_times_found(client, model, others):
-    """The model with the times that are found of nodes that stand in others too, where each is that of one of them."""
-    found = copied(model)
-    for ino, node in found.nodes.items():
-        reply, _, _ = client.call(ROOT_USER, "getattr", [(ino, found.generation(ino))])
-        there = [other.nodes[ino] for other in others if ino in other.nodes]
-        if reply[:4] != bytes(4):
-            continue
-        mtime, ctime = (struct.unpack_from(">I", reply, 4 + 4 * word)[0] for word in (13, 15))
-        if mtime in [other.mtime for other in there] and ctime in [other.ctime for other in there]:
-            node.mtime, node.ctime = mtime, ctime
-    return found
-
-
-def with_sectors_found(client, before, after, arguments):
-    """The files before a WRITE, where each held sector below the old size is the old one or the new one, whichever is found."""
-    found = copied(before)
-    ino, generation = arguments[0]
-    node, new = found.nodes[ino], after.nodes[ino]
-    for index in node.held:
-        begin = index * tree.SECTOR
-        count = max(0, min(tree.SECTOR, node.size - begin))
-        reply, _, _ = client.call(ROOT_USER, "read", [(ino, generation), begin, count])
-        if count and reply[4 + 68 + 4 :][:count] != node.held[index][:count]:
-            node.held[index] = new.held[index][:count].ljust(tree.SECTOR, b"\0")
-    return found
-
-
-def candidates(client, kept):
-    """The files before the call and after it, times aside, or those before a WRITE with some of its sectors."""
-    before, afters = kept["before"], kept["afters"]
-    if before is None:
-        yield from afters
-        return
-    yield before
-    yield from afters
-    for model in [before] + afters:
-        yield with_times_found(client, model, [before] + afters)
-    if kept["kind"] == "write":
-        ino = kept["arguments"][0][0]
-        for after in afters:
-            if ino in before.nodes:
-                yield with_sectors_found(client, before, after, kept["arguments"])
-
-
-def probe(client, model, kept):
-    """A file is made and removed, which tells whether the generation that the call would have used was raised."""
-    name, unset = b"probe", dict.fromkeys(("mode", "uid", "gid", "size", "atime", "mtime"))
-    raised = copied(model)
-    for after in kept["afters"]:
-        for ino, generation in after.generations.items():
-            if ino not in model.nodes:
-                raised.generations[ino] = generation
-    root = (2, model.generation(2))
-    reply, before, after = client.call(ROOT_USER, "create", [root, name, unset])
-    for candidate in (model, raised):
+def probe(client, found):
+    """A file is made and removed, which tells whether the generation that the call would have used was raised. It takes no block where some
+    directory has an empty slot."""
+    model = found[0][1]
+    ino = next((ino for ino, node in model.nodes.items() if node.kind == DIRECTORY and None in node.slots), 2)
+    unset = dict.fromkeys(("mode", "uid", "gid", "size", "atime", "mtime"))
+    file, name = (ino, model.generation(ino)), b"probe"
+    reply, before, after = client.call(ROOT_USER, "create", [file, name, unset])
+    for words, candidate in found:
         for now in range(before - 1, after + 1):
-            wanted, trial = after_call(candidate, "create", now, ROOT_USER, [root, name, unset])
+            wanted, trial = answer(candidate, "create", now, ROOT_USER, [file, name, unset])
             if wanted == reply:
-                return tree.check(client, trial, "remove", ROOT_USER, [root, name])
+                return words, tree.check(client, trial, "remove", ROOT_USER, [file, name])
     raise SystemExit(f"a file is made otherwise: {reply.hex()[:400]}")
 
 
 def settle(client, kept, kinds):
     names = [argument for argument in kept["arguments"] if isinstance(argument, bytes) and kept["kind"] != "write"]
-    for model in candidates(client, kept):
-        if is_found(client, model, kinds, names):
-            return probe(client, model, kept)
-    raise SystemExit(f"after a kill in {kept['kind']} {kept['arguments']} the volume is none that it may be")
+    found = [(words, model) for words, model in candidates(client, kept) if is_found(client, model, kinds, names)]
+    if not found:
+        raise SystemExit(f"after a kill in {kept['kind']} {kept['arguments']} the volume is none that it may be")
+    return probe(client, found)
+
+
+# ---- the words of the command line
 
 
 def load(path):
@@ -151,12 +188,12 @@ def keep(path, value):
 
 
 def main(port, seed, calls, path, words):
-    client, kept = tree.Client(port), load(path)
+    client, kept = Client(port), load(path)
     if calls == "settle":
-        model = settle(client, kept, words)
+        found, model = settle(client, kept, words)
         tree.compare(client, model, words)
         keep(path, model)
-        print(tree.summary(model))
+        print(f"{found}: {tree.summary(model)}")
         return
     pid, kinds = int(words[0]), words[1:]
     chooser = tree.Chooser(seed, kinds)
