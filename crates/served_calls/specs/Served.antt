@@ -15,4 +15,6 @@ is_served (call.Remove dir name) = true
 is_served (call.Readlink file) = true
 is_served (call.Readdir dir cookie count) = true
 is_served (call.Statfs file) = true
+is_served (call.Rmdir dir name) = true
+is_served (call.Link file dir name) = true
 is_served _ = false

@@ -21,6 +21,8 @@ pub fn is_served(call: &Call) -> bool
             | Call::Create { .. }
             | Call::Remove { .. }
             | Call::Readdir { .. }
+            | Call::Link { .. }
+            | Call::Rmdir { .. }
             | Call::Statfs { .. }
     )
 }

@@ -19,12 +19,16 @@ use Rattle.volume.specs.Names.{changes_names}
 pub is-change : (c : Call) → changes_names c ≡ true → is_change c ≡ true
 is-change (call.Create dir name wanted) is = refl
 is-change (call.Remove dir name) is = refl
+is-change (call.Rmdir dir name) is = refl
+is-change (call.Link file dir name) is = refl
 is-change _ is = absurd (cc)
 
 -- and costs on all files what it costs at most
 pub cost-is : (files : Files) (c : Call) (cred : Cred) (now : ℕ) → changes_names c ≡ true → call_cost files c cred now ≡ most_puts c
 cost-is files (call.Create dir name wanted) cred now is = refl
 cost-is files (call.Remove dir name) cred now is = refl
+cost-is files (call.Rmdir dir name) cred now is = refl
+cost-is files (call.Link file dir name) cred now is = refl
 cost-is files _ cred now is = absurd (cc)
 
 -- ---- the forms of replies

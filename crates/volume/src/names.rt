@@ -18,7 +18,9 @@ use crate::carrying::carry_out;
 use crate::outcome::Outcome;
 use files_model::{Call, Cred};
 use plan_file::PlanFault;
+use plan_link::plan_link;
 use plan_name::{Planned, plan_create, plan_remove};
+use plan_rmdir::plan_rmdir;
 use stable::Stable;
 use std::alloc::Global;
 use v7_sets::Sets;
@@ -44,6 +46,10 @@ fn plan_names<S: Stable>(
             plan_create(alloc, store, sets, *dir, name, set, cred, now)
         }
         Call::Remove { dir, name } => plan_remove(alloc, store, *dir, name, cred, now),
+        Call::Rmdir { dir, name } => plan_rmdir(alloc, store, *dir, name, cred, now),
+        Call::Link { file, dir, name } => plan_link(
+            alloc, store, sets, *file, *dir, name, cred, now,
+        ),
         _ => unreachable!(),
     }
 }

@@ -1,5 +1,11 @@
-use Rattle.volume.proofs.NamedCalls.{create_form, remove_form}
+use Rattle.volume.proofs.NamedCalls.{create_form, remove_form, rmdir_form, link_form}
 use Rattle.volume.proofs.names.plan_names.Goals as goal
 
 pub returns-in-Create-clause-can : goal.returns-in-Create-clause-can
 returns-in-Create-clause-can g c = λ r is. record { fits = c.plan_create.ensures.fits r is; form = create_form c.in-Create.dir c.in-Create.name.now c.in-Create.set.now r.reply (c.plan_create.ensures.form r is) }
+
+pub returns-in-Rmdir-clause-can : goal.returns-in-Rmdir-clause-can
+returns-in-Rmdir-clause-can g c = λ r is. record { fits = c.plan_rmdir.ensures.fits r is; form = rmdir_form c.in-Rmdir.dir c.in-Rmdir.name.now r.reply (c.plan_rmdir.ensures.form r is) }
+
+pub returns-in-Link-clause-can : goal.returns-in-Link-clause-can
+returns-in-Link-clause-can g c = λ r is. record { fits = c.plan_link.ensures.fits r is; form = link_form c.in-Link.file c.in-Link.dir c.in-Link.name.now r.reply (c.plan_link.ensures.form r is) }
