@@ -7,3 +7,4 @@ mod LinkMade
 mod Fitting
 mod Planned
 mod RowAnswers
+mod PlaceAnswers

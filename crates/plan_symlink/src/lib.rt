@@ -7,5 +7,11 @@ mod links_in_place;
 mod making;
 mod new_link;
 mod puts;
+mod symlink;
 mod text_blocks;
 mod text_puts;
+
+pub use symlink::plan_symlink;
+
+#[cfg(test)]
+mod tests;

@@ -1,0 +1,85 @@
+// The plan of a SYMLINK.
+
+ghost use Rattle.std.specs.Prelude.{◌≡◌, ◌≤◌, IfOk, OnErr, IsErrOf};
+ghost use Rattle.files_model.specs.declared.call.Call.TheVariants.{Symlink};
+ghost use Rattle.plan_file.specs.declared.fault.PlanFault.TheVariants as fault;
+ghost use Rattle.plan_name.specs.Creating.{CanBePut};
+ghost use Rattle.plan_name.specs.Freeing.{IsDoneReply};
+ghost use Rattle.plan_name.specs.Planned.{IsPlannedCall, TakesFrom};
+ghost use Rattle.stable.specs.Counts.{Rose};
+ghost use Rattle.stable.specs.Looked.{Looked};
+ghost use Rattle.v7_map.specs.Frame.{frame};
+ghost use Rattle.v7_map.specs.Weak.{IsStrong};
+ghost use Rattle.v7_sets.specs.Sets.{AreSetsOf};
+
+use crate::links_at_end::plan_link_at_end;
+use crate::links_in_place::plan_link_in_place;
+use files_model::{Cred, FileId, Name, Sattr, Stat, Text};
+use name_places::{NamePlace, find_place};
+use plan_file::PlanFault;
+use plan_name::{Planned, Spot, place_refusal, refused};
+use stable::Stable;
+use std::alloc::Global;
+use v7_map::attributes_of;
+use v7_read::find;
+use v7_sets::Sets;
+
+/// Plans a SYMLINK (RFC 1094 2.2.14): STALE, ROFS, NOTDIR, the refusals of its name, EXIST where the name is there, then by its directory and what is free.
+/// A new link takes the lowest i-number that is free, and its entry the first empty slot, or one at the directory's end. Its text takes the lowest free
+/// blocks, past those that the directory takes. Nothing is put. All memory that the plan needs is taken here. What a new link takes leaves the sets of what
+/// is free; after a fault they are as they were. Nothing is freed.
+pub fn plan_symlink<S: Stable>(
+    alloc: Global,
+    store: &mut S,
+    sets: &mut Sets,
+    dir: FileId,
+    name: &Name,
+    text: &Text,
+    wanted: &Sattr,
+    cred: &Cred,
+    now: u32,
+) -> Result<Planned, PlanFault>
+    ensures planned { S.tells → IsStrong (frame (S.image store.old)) → AreSetsOf (S.image store.old) sets.old.blocks sets.old.inodes → IfOk result (λ r. IsPlannedCall (S.image store.old) (Symlink dir name.now text.now wanted.now, cred.now) now sets.new r) }
+    ensures fits { IfOk result (λ r. CanBePut (S.sector_count store.old) 6 r.plan.puts) }
+    ensures form { IfOk result (λ r. IsDoneReply r.reply) }
+    ensures room { IfOk result (λ r. r.plan.room ≤ 6) }
+    ensures takes { TakesFrom sets.old sets.new }
+    ensures kept { OnErr result (sets.new ≡ sets.old) }
+    ensures cause { IsErrOf result fault.Failed → Rose (S.faults store.old) (S.faults store.new) }
+    ensures looked { Looked S.Stable store.old store.new }
+{
+    let found = find(store, dir)?;
+    let Some(found) = found else {
+        return Ok(refused(alloc, Stat::Stale));
+    };
+    let attr = attributes_of(dir.ino, &found.inode);
+    match place_refusal(found.read_only, attr.kind, name) {
+        Some(status) => return Ok(refused(alloc, status)),
+        None => {}
+    }
+    let place = find_place(store, dir, &found, name)?;
+    match place {
+        NamePlace::Taken(_slot) => Ok(refused(alloc, Stat::Exist)),
+        NamePlace::Empty(empty) => {
+            let spot = Spot {
+                directory: dir,
+                ..empty
+            };
+            plan_link_in_place(
+                alloc, store, sets, &attr, &spot, name, text, wanted, cred, now,
+            )
+        }
+        NamePlace::End => plan_link_at_end(
+            alloc,
+            store,
+            sets,
+            dir,
+            &found.inode,
+            name,
+            text,
+            wanted,
+            cred,
+            now,
+        ),
+    }
+}
