@@ -1,0 +1,67 @@
+// The plan of a MKDIR.
+
+ghost use Rattle.std.specs.Prelude.{◌≡◌, ◌≤◌, IfOk, OnErr, IsErrOf};
+ghost use Rattle.files_model.specs.declared.call.Call.TheVariants.{Mkdir};
+ghost use Rattle.plan_file.specs.declared.fault.PlanFault.TheVariants as fault;
+ghost use Rattle.plan_name.specs.Created.{IsHandleReply};
+ghost use Rattle.plan_name.specs.Creating.{CanBePut};
+ghost use Rattle.plan_name.specs.Planned.{IsPlannedCall, TakesFrom};
+ghost use Rattle.stable.specs.Counts.{Rose};
+ghost use Rattle.stable.specs.Looked.{Looked};
+ghost use Rattle.v7_map.specs.Frame.{frame};
+ghost use Rattle.v7_map.specs.Weak.{IsStrong};
+ghost use Rattle.v7_sets.specs.Sets.{AreSetsOf};
+
+use crate::at_end::plan_at_end;
+use crate::in_place::plan_in_place;
+use files_model::{Cred, FileId, Name, Sattr, Stat};
+use name_places::{NamePlace, find_place};
+use plan_file::PlanFault;
+use plan_name::{Planned, place_refusal, refused};
+use stable::Stable;
+use std::alloc::Global;
+use v7_map::attributes_of;
+use v7_read::find;
+use v7_sets::Sets;
+
+/// Plans a MKDIR (RFC 1094 2.2.15): STALE, the refusals of the parent and the name, EXIST for a name that is there, then those of the new entry. The new
+/// directory takes the lowest i-number that is free, and its entry the first empty slot, or one at the parent's end. Nothing is put. All memory that the
+/// plan needs is taken here. What is new leaves the sets of what is free; after a fault they are as they were. Nothing is freed.
+pub fn plan_mkdir<S: Stable>(
+    alloc: Global,
+    store: &mut S,
+    sets: &mut Sets,
+    dir: FileId,
+    name: &Name,
+    wanted: &Sattr,
+    cred: &Cred,
+    now: u32,
+) -> Result<Planned, PlanFault>
+    ensures planned { S.tells → IsStrong (frame (S.image store.old)) → AreSetsOf (S.image store.old) sets.old.blocks sets.old.inodes → IfOk result (λ r. IsPlannedCall (S.image store.old) (Mkdir dir name.now wanted.now, cred.now) now sets.new r) }
+    ensures fits { IfOk result (λ r. CanBePut (S.sector_count store.old) 5 r.plan.puts) }
+    ensures form { IfOk result (λ r. IsHandleReply r.reply) }
+    ensures room { IfOk result (λ r. r.plan.room ≤ 5) }
+    ensures takes { TakesFrom sets.old sets.new }
+    ensures kept { OnErr result (sets.new ≡ sets.old) }
+    ensures cause { IsErrOf result fault.Failed → Rose (S.faults store.old) (S.faults store.new) }
+    ensures looked { Looked S.Stable store.old store.new }
+{
+    let found = find(store, dir)?;
+    let Some(found) = found else {
+        return Ok(refused(alloc, Stat::Stale));
+    };
+    let parent = attributes_of(dir.ino, &found.inode);
+    match place_refusal(found.read_only, parent.kind, name) {
+        Some(status) => return Ok(refused(alloc, status)),
+        None => {}
+    }
+    match find_place(store, dir, &found, name)? {
+        NamePlace::Taken(_) => Ok(refused(alloc, Stat::Exist)),
+        NamePlace::Empty(spot) => {
+            plan_in_place(alloc, store, sets, &parent, &spot, name, wanted, cred, now)
+        }
+        NamePlace::End => {
+            plan_at_end(alloc, store, sets, dir, &found.inode, name, wanted, cred, now)
+        }
+    }
+}
