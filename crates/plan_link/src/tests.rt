@@ -89,7 +89,7 @@ impl Small {
     }
 
     // A LINK to a name in the root by the user of this number, at second 2000.
-    fn link(&mut self, file: FileId, name: &[u8], uid: u32) -> Result<Planned, Fail> {
+    fn link(&mut self, file: FileId, name: &[u8], uid: u16) -> Result<Planned, Fail> {
         if name.len() > 255 {
             return Err("too long".into());
         }
