@@ -17,4 +17,5 @@ is_served (call.Readdir dir cookie count) = true
 is_served (call.Statfs file) = true
 is_served (call.Rmdir dir name) = true
 is_served (call.Link file dir name) = true
+is_served (call.Symlink dir name text wanted) = true
 is_served _ = false

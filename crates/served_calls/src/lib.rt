@@ -21,6 +21,7 @@ pub fn is_served(call: &Call) -> bool
             | Call::Create { .. }
             | Call::Remove { .. }
             | Call::Readdir { .. }
+            | Call::Symlink { .. }
             | Call::Link { .. }
             | Call::Rmdir { .. }
             | Call::Statfs { .. }

@@ -21,6 +21,7 @@ is-change (call.Create dir name wanted) is = refl
 is-change (call.Remove dir name) is = refl
 is-change (call.Rmdir dir name) is = refl
 is-change (call.Link file dir name) is = refl
+is-change (call.Symlink dir name text wanted) is = refl
 is-change _ is = absurd (cc)
 
 -- and costs on all files what it costs at most
@@ -29,6 +30,7 @@ cost-is files (call.Create dir name wanted) cred now is = refl
 cost-is files (call.Remove dir name) cred now is = refl
 cost-is files (call.Rmdir dir name) cred now is = refl
 cost-is files (call.Link file dir name) cred now is = refl
+cost-is files (call.Symlink dir name text wanted) cred now is = refl
 cost-is files _ cred now is = absurd (cc)
 
 -- ---- the forms of replies

@@ -82,6 +82,7 @@ pub fn make_call<S: Stable>(
         Call::Lookup { dir, name } => lookup(store, *dir, name, cred, now),
         Call::Create { .. } => change_names(alloc, store, sets, call, cred, now),
         Call::Remove { .. } => change_names(alloc, store, sets, call, cred, now),
+        Call::Symlink { .. } => change_names(alloc, store, sets, call, cred, now),
         Call::Link { .. } => change_names(alloc, store, sets, call, cred, now),
         Call::Rmdir { .. } => change_names(alloc, store, sets, call, cred, now),
         Call::Readlink { file } => readlink(alloc, store, *file, cred, now),

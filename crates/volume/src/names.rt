@@ -21,6 +21,7 @@ use plan_file::PlanFault;
 use plan_link::plan_link;
 use plan_name::{Planned, plan_create, plan_remove};
 use plan_rmdir::plan_rmdir;
+use plan_symlink::plan_symlink;
 use stable::Stable;
 use std::alloc::Global;
 use v7_sets::Sets;
@@ -50,6 +51,12 @@ fn plan_names<S: Stable>(
         Call::Link { file, dir, name } => plan_link(
             alloc, store, sets, *file, *dir, name, cred, now,
         ),
+        Call::Symlink {
+            dir,
+            name,
+            text,
+            set,
+        } => plan_symlink(alloc, store, sets, *dir, name, text, set, cred, now),
         _ => unreachable!(),
     }
 }

@@ -1,4 +1,4 @@
-use Rattle.volume.proofs.NamedCalls.{create_form, remove_form, rmdir_form, link_form}
+use Rattle.volume.proofs.NamedCalls.{create_form, remove_form, rmdir_form, link_form, symlink_form}
 use Rattle.volume.proofs.names.plan_names.Goals as goal
 
 pub returns-in-Create-clause-can : goal.returns-in-Create-clause-can
@@ -9,3 +9,6 @@ returns-in-Rmdir-clause-can g c = λ r is. record { fits = c.plan_rmdir.ensures.
 
 pub returns-in-Link-clause-can : goal.returns-in-Link-clause-can
 returns-in-Link-clause-can g c = λ r is. record { fits = c.plan_link.ensures.fits r is; form = link_form c.in-Link.file c.in-Link.dir c.in-Link.name.now r.reply (c.plan_link.ensures.form r is) }
+
+pub returns-in-Symlink-clause-can : goal.returns-in-Symlink-clause-can
+returns-in-Symlink-clause-can g c = λ r is. record { fits = c.plan_symlink.ensures.fits r is; form = symlink_form c.in-Symlink.dir c.in-Symlink.name.now c.in-Symlink.text.now c.in-Symlink.set.now r.reply (c.plan_symlink.ensures.form r is) }
