@@ -1,0 +1,6 @@
+mod Row
+mod Told
+mod Finding
+mod Outcomes
+mod Planned
+mod Lengthened
