@@ -95,6 +95,15 @@ fn old_place(ends: &Ends, old: &OldName) -> SlotPlace
     }
 }
 
+// What the new slot is to hold.
+fn new_slot(old: &OldName, new_name: &Name) -> Slot
+    requires number { old.now.slot.ino ≢ 0 }
+    requires named { FitsSlot new_name.now }
+    ensures { slot_from result ≡ Some (old.now.slot.ino, new_name.now) }
+{
+    slot_of(old.slot.ino, new_name.bytes())
+}
+
 // The name moves to this slot of the other directory.
 fn moved_to(ends: &Ends, old: &OldName, index: u32, sector: u32, new_name: &Name) -> Moved
     requires number { old.now.slot.ino ≢ 0 }
@@ -110,7 +119,7 @@ fn moved_to(ends: &Ends, old: &OldName, index: u32, sector: u32, new_name: &Name
             index,
             sector,
         },
-        slot: slot_of(old.slot.ino, new_name.bytes()),
+        slot: new_slot(old, new_name),
     }
 }
 
@@ -191,7 +200,7 @@ fn judge_end(sets: &Sets, ends: &Ends, old: &OldName, new_name: &Name, cred: &Cr
         None => {}
     }
     let place = old_place(ends, old);
-    let slot = slot_of(old.slot.ino, new_name.bytes());
+    let slot = new_slot(old, new_name);
     if told.same {
         return Judged::Names(place, slot);
     }

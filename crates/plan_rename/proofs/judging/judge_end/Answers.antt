@@ -18,7 +18,7 @@ returns-then-told-clause-judged c = λ image name strong are x free now.
     let ends = c.args.ends.now in let old = c.args.old.now in let blocks = c.args.sets.now.blocks in let inodes = c.args.sets.now.inodes in let q = node_at image ends.to.ino in
     free-named image ends name c.args.new_name.now old blocks inodes strong are x c.args.cred.now now free.absent true (sym (ap not (le-ltb (place_for q.slots) (length q.slots) free.full)))
     (refusal-is ends old blocks c.args.cred.now None true c.told_of-told.result c.count.result None c.told_of-told.ensures c.count.ensures c.in-None.ensures)
-    c.old_place-place.result c.slot_of-slot.result (sym (ap (λ (t : Told). t.same) c.told_of-told.ensures) ∙ c.if-told.true) c.old_place-place.ensures c.slot_of-slot.ensures
+    c.old_place-place.result c.new_slot-slot.result (sym (ap (λ (t : Told). t.same) c.told_of-told.ensures) ∙ c.if-told.true) c.old_place-place.ensures c.new_slot-slot.ensures
 
 pub returns-clause-judged : goal.returns-clause-judged
 returns-clause-judged c = λ image name strong are x free now.
@@ -26,5 +26,5 @@ returns-clause-judged c = λ image name strong are x free now.
     free-lengthens image ends name c.args.new_name.now old blocks inodes strong are x c.args.cred.now now free.absent true (sym (ap not (le-ltb (place_for q.slots) (length q.slots) free.full)))
     (refusal-is ends old blocks c.args.cred.now None true c.told_of-told.result c.count.result None c.told_of-told.ensures c.count.ensures c.in-None.ensures)
     (sym (ap (λ (t : Told). t.same) c.told_of-told.ensures) ∙ c.if-told.false)
-    record { old = c.old_place-place.result; slot = c.slot_of-slot.result; to = ends.to.ino; inode = ends.to_found.inode } free
-    (ap (λ o. record { old = o; slot = c.slot_of-slot.result; to = ends.to.ino; inode = ends.to_found.inode }) c.old_place-place.ensures) c.slot_of-slot.ensures
+    record { old = c.old_place-place.result; slot = c.new_slot-slot.result; to = ends.to.ino; inode = ends.to_found.inode } free
+    (ap (λ o. record { old = o; slot = c.new_slot-slot.result; to = ends.to.ino; inode = ends.to_found.inode }) c.old_place-place.ensures) c.new_slot-slot.ensures

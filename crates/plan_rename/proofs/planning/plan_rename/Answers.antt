@@ -29,13 +29,13 @@ pub returns-in_default-2-clause-planned : goal.returns-in_default-2-clause-plann
 returns-in_default-2-clause-planned g c = λ tells strong are.
     let S = g.S.Stable in
     let image : Image = S.image c.args.store.now in
-    let said = c.refused-2.ensures in
+    let said = c.refused-in_default-2.ensures in
     let call : Renaming = record { from = c.args.from; name = c.args.name.now; to = c.args.to; new_name = c.args.new_name.now; cred = c.args.cred.now } in
     let first : S.image c.find.new.store ≡ image = c.in_ok-from_found.ensures.looked.image in
     let from : IsFile image c.args.from c.in-Some.from_found = subst (Finds image c.args.from) c.in-Some.is (c.in_ok-from_found.ensures.found tells strong) in
     let none : Finds image c.args.to None = subst (λ (m : Image). Finds m c.args.to None) first
     (subst (Finds (S.image c.find.new.store) c.args.to) (none_of c.in_ok-to_found.field-0 c.in_default-2.not-Some) (c.in_ok-to_found.ensures.found tells (subst (λ (m : Image). IsStrong (frame m)) (sym first) strong))) in
-    unchanged-call image (asked_of call) c.args.now c.args.sets.now c.refused-2.result (reply.Refused stat.Stale) strong are
+    unchanged-call image (asked_of call) c.args.now c.args.sets.now c.refused-in_default-2.result (reply.Refused stat.Stale) strong are
     (stale-to image call c.args.now strong from.stands none) said.plan said.reply said.blocks said.inode
 
 pub returns-clause-planned : goal.returns-clause-planned
