@@ -4,3 +4,4 @@ mod Finding
 mod Outcomes
 mod Planned
 mod Lengthened
+mod Slotted

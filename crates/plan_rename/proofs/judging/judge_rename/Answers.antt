@@ -1,6 +1,8 @@
-use Rattle.std.proofs.Common.{◌≡◌, true, None, Some, sym, ap, subst, ◌∙◌, IfOk}
+use Rattle.std.proofs.Common.{◌≡◌, true, None, Some, not, sym, ap, subst, ◌∙◌, IfOk}
 use Rattle.name_places.specs.Places.{IsNamePlace, IsTakenBy}
+use Rattle.files_model.specs.Permission.{is_directory}
 use Rattle.stable.specs.Store.{Image}
+use Rattle.stable.proofs.Looking.{looks_again}
 use Rattle.v7_map.specs.Frame.{frame}
 use Rattle.v7_map.specs.Image.{is_inode, inode_at}
 use Rattle.v7_map.specs.View.{node_at}
@@ -10,6 +12,7 @@ use Rattle.plan_name.proofs.RemovingJudged.{none_of, no_some, same_inode}
 use Rattle.plan_rename.specs.Found.{AreFound, FindsOld, call_of}
 use Rattle.plan_rename.specs.Renames.{JudgesRename}
 use Rattle.plan_rename.proofs.Finding.{found-by, found-refused, found-kinds, found-absent, found-old, found-live_from, not-taken, taken-some}
+use Rattle.plan_rename.proofs.Slotted.{passed-fits}
 use Rattle.plan_rename.proofs.judging.judge_rename.Goals as goal
 
 pub returns-in-Some-clause-judged : goal.returns-in-Some-clause-judged
@@ -69,3 +72,11 @@ returns-in_default-2-clause-judged g c = λ tells strong are found now.
     let first = c.in_ok-slot.ensures.looked.image in
     absurd (no_some (sym (none_of c.in_ok-inode.field-0 c.in_default-2.not-Some) ∙ c.in_ok-inode.ensures.inode tells (subst (λ (m : Image). IsWeak (frame m)) (sym first) strong.weak)
     (subst (λ (m : Image). is_inode m c.in-Taken.slot.ino ≡ true) (sym first) taken.inode)))
+
+pub judge_found-requires-clause-named : goal.judge_found-requires-clause-named
+judge_found-requires-clause-named g c = passed-fits c.args.ends.now.from_found.read_only (not (is_directory c.kind_of-from_kind.result)) (not (is_directory c.kind_of-to_kind.result)) c.args.name.now c.args.new_name.now (sym c.in-None.ensures)
+
+pub returns-clause-looked : goal.returns-clause-looked
+returns-clause-looked g c =
+    let S = g.S.Stable in
+    looks_again S g.met.S.Stable.clocked (looks_again S g.met.S.Stable.clocked c.in_ok-slot.ensures.looked c.in_ok-inode.ensures.looked) c.judge_found.ensures.looked
