@@ -1,2 +1,10 @@
 //! The plan of a RENAME.
 #![tactic(auto)]
+
+mod judging;
+mod lengthening;
+mod planning;
+mod putting;
+mod refusals;
+
+pub use planning::plan_rename;

@@ -5,3 +5,5 @@ mod Built
 mod BuiltName
 mod BuiltMove
 mod BuiltReplacement
+pub mod Grown
+mod BuiltLonger

@@ -1,0 +1,7 @@
+mod Row
+mod Told
+mod Finding
+mod Outcomes
+mod Planned
+mod Lengthened
+mod Slotted
