@@ -166,11 +166,16 @@ def probe(client, found):
     raise SystemExit(f"a file is made otherwise: {reply.hex()[:400]}")
 
 
+def names_in(kind, arguments):
+    texts = [argument for argument in arguments if isinstance(argument, bytes)]
+    return [] if kind == "write" else texts[:1] if kind == "symlink" else texts
+
+
 def settle(client, kept, kinds):
-    names = [argument for argument in kept["arguments"] if isinstance(argument, bytes) and kept["kind"] != "write"]
+    names = names_in(kept["kind"], kept["arguments"])
     found = [(words, model) for words, model in candidates(client, kept) if is_found(client, model, kinds, names)]
     if not found:
-        raise SystemExit(f"after a kill in {kept['kind']} {kept['arguments']} the volume is none that it may be")
+        raise SystemExit(f"after a kill in {kept['kind']} {kept['arguments']}"[:400] + " the volume is none that it may be")
     return probe(client, found)
 
 
