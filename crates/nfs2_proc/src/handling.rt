@@ -10,9 +10,10 @@ ghost use Rattle.volume.specs.Mounted.{KeepsTitle, is_hurt, store_of};
 ghost use Rattle.volume.specs.Rests.{Rests};
 
 use files_model::{Call, Cred, Reply, Stat};
-use nfs2_wire::{ReplyBytes, Room, write_reply};
+use nfs2_wire::{Room, write_reply};
 use stable::Tended;
 use volume::{Outcome, Volume};
+use xdr_rpc::ReplyBytes;
 
 /// What became of a call.
 #[derive(Drop)]
@@ -46,12 +47,7 @@ pub fn handle<S: Tended>(
 {
     match volume.apply(call, cred, now) {
         Outcome::Reply(reply) => Handled::Bytes(write_reply(room, xid, &reply, number)),
-        Outcome::Io => Handled::Bytes(write_reply(
-            room,
-            xid,
-            &Reply::Refused(Stat::Io),
-            number,
-        )),
+        Outcome::Io => Handled::Bytes(write_reply(room, xid, &Reply::Refused(Stat::Io), number)),
         Outcome::NoMemory => Handled::NoMemory(room),
     }
 }

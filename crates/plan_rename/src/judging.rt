@@ -254,7 +254,13 @@ pub(crate) fn judge_rename<S: Stable>(
 {
     let from_kind = kind_of(ends.from_found.inode.mode);
     let to_kind = kind_of(ends.to_found.inode.mode);
-    match names_refusal(ends.from_found.read_only, from_kind, to_kind, name, new_name) {
+    match names_refusal(
+        ends.from_found.read_only,
+        from_kind,
+        to_kind,
+        name,
+        new_name,
+    ) {
         Some(status) => return Ok(Judged::Refused(status)),
         None => {}
     }

@@ -1,5 +1,5 @@
--- Which calls the server serves so far; the step has a row for each (docs/CALLS.md).
-use Rattle.std.specs.Prelude.{Bool, true, false}
+-- Which calls the server serves: each that the step has a row for (docs/CALLS.md).
+use Rattle.std.specs.Prelude.{Bool, true}
 use Rattle.files_model.specs.declared.call.Call.{Call}
 use Rattle.files_model.specs.declared.call.Call.TheVariants as call
 
@@ -18,4 +18,5 @@ is_served (call.Statfs file) = true
 is_served (call.Rmdir dir name) = true
 is_served (call.Link file dir name) = true
 is_served (call.Symlink dir name text wanted) = true
-is_served _ = false
+is_served (call.Rename from name to new_name) = true
+is_served (call.Mkdir dir name wanted) = true

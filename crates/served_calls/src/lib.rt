@@ -1,4 +1,4 @@
-//! Which calls of NFS the server serves so far.
+//! Which calls of NFS the server serves.
 #![tactic(auto)]
 
 ghost use Rattle.std.specs.Prelude.{◌≡◌};
@@ -6,7 +6,7 @@ ghost use Rattle.served_calls.specs.Served.{is_served};
 
 use files_model::Call;
 
-/// Whether a call is served (RFC 1094 2.2): all but RENAME, LINK, SYMLINK, MKDIR and RMDIR.
+/// Whether a call is served (RFC 1094 2.2): today each is.
 pub fn is_served(call: &Call) -> bool
     ensures { result ≡ is_served call.now }
 {
@@ -21,6 +21,8 @@ pub fn is_served(call: &Call) -> bool
             | Call::Create { .. }
             | Call::Remove { .. }
             | Call::Readdir { .. }
+            | Call::Mkdir { .. }
+            | Call::Rename { .. }
             | Call::Symlink { .. }
             | Call::Link { .. }
             | Call::Rmdir { .. }

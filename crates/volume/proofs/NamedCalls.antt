@@ -22,6 +22,8 @@ is-change (call.Remove dir name) is = refl
 is-change (call.Rmdir dir name) is = refl
 is-change (call.Link file dir name) is = refl
 is-change (call.Symlink dir name text wanted) is = refl
+is-change (call.Rename from name to new_name) is = refl
+is-change (call.Mkdir dir name wanted) is = refl
 is-change _ is = absurd (cc)
 
 -- and costs on all files what it costs at most
@@ -31,6 +33,8 @@ cost-is files (call.Remove dir name) cred now is = refl
 cost-is files (call.Rmdir dir name) cred now is = refl
 cost-is files (call.Link file dir name) cred now is = refl
 cost-is files (call.Symlink dir name text wanted) cred now is = refl
+cost-is files (call.Rename from name to new_name) cred now is = refl
+cost-is files (call.Mkdir dir name wanted) cred now is = refl
 cost-is files _ cred now is = absurd (cc)
 
 -- ---- the forms of replies

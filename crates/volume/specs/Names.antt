@@ -14,6 +14,8 @@ changes_names (call.Remove dir name) = true
 changes_names (call.Rmdir dir name) = true
 changes_names (call.Link file dir name) = true
 changes_names (call.Symlink dir name text wanted) = true
+changes_names (call.Rename from name to new_name) = true
+changes_names (call.Mkdir dir name wanted) = true
 changes_names _ = false
 
 -- what such a call comes to can be put on a store of so many sectors, by as many puts as it costs at most, and answers the call

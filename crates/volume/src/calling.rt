@@ -82,6 +82,8 @@ pub fn make_call<S: Stable>(
         Call::Lookup { dir, name } => lookup(store, *dir, name, cred, now),
         Call::Create { .. } => change_names(alloc, store, sets, call, cred, now),
         Call::Remove { .. } => change_names(alloc, store, sets, call, cred, now),
+        Call::Mkdir { .. } => change_names(alloc, store, sets, call, cred, now),
+        Call::Rename { .. } => change_names(alloc, store, sets, call, cred, now),
         Call::Symlink { .. } => change_names(alloc, store, sets, call, cred, now),
         Call::Link { .. } => change_names(alloc, store, sets, call, cred, now),
         Call::Rmdir { .. } => change_names(alloc, store, sets, call, cred, now),
@@ -90,6 +92,5 @@ pub fn make_call<S: Stable>(
             readdir(alloc, store, *dir, *cookie, *count, cred, now)
         }
         Call::Statfs { file } => statfs(store, sets, *file, cred, now),
-        _ => unreachable!(),
     }
 }

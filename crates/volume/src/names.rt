@@ -19,7 +19,9 @@ use crate::outcome::Outcome;
 use files_model::{Call, Cred};
 use plan_file::PlanFault;
 use plan_link::plan_link;
+use plan_mkdir::plan_mkdir;
 use plan_name::{Planned, plan_create, plan_remove};
+use plan_rename::plan_rename;
 use plan_rmdir::plan_rmdir;
 use plan_symlink::plan_symlink;
 use stable::Stable;
@@ -57,6 +59,15 @@ fn plan_names<S: Stable>(
             text,
             set,
         } => plan_symlink(alloc, store, sets, *dir, name, text, set, cred, now),
+        Call::Rename {
+            from,
+            name,
+            to,
+            new_name,
+        } => plan_rename(alloc, store, sets, *from, name, *to, new_name, cred, now),
+        Call::Mkdir { dir, name, set } => plan_mkdir(
+            alloc, store, sets, *dir, name, set, cred, now,
+        ),
         _ => unreachable!(),
     }
 }

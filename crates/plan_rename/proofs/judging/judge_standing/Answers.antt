@@ -31,11 +31,10 @@ returns-clause-judged g c = λ tells name strong are x taken now.
     let image : Image = g.S.Stable.image c.args.store.now in
     let slot = c.args.slot.now in
     let read : c.in-Some.inode ≡ inode_at image slot.ino = same_inode (sym c.in-Some.is ∙ c.in_ok-inode.ensures.inode tells strong.weak taken.inode) in
-    let kind : c.kind_of.result ≡ kind_of ((inode_at image slot.ino).mode / 4096) = c.kind_of.ensures ∙ ap (λ (m : Inode). kind_of (m.mode / 4096)) read in
-    (
+    let kind : c.kind_of.result ≡ kind_of ((inode_at image slot.ino).mode / 4096) = c.kind_of.ensures ∙ ap (λ (m : Inode). kind_of (m.mode / 4096)) read in (
       standing-replaced image c.args.ends.now name c.args.new_name.now c.args.old.now c.args.sets.now.blocks c.args.sets.now.inodes strong are x c.args.cred.now now slot taken c.if-slot-old.false c.kind_of.result kind
-      c.moved_to-moved.result record { node = slot.ino; last = c.in-Some.inode.nlink == 1 } c.in-Some.inode
-      (refusal-is c.args.ends.now c.args.old.now c.args.sets.now.blocks c.args.cred.now (Some c.kind_of.result) false c.told_of-told.result c.count.result None c.told_of-told.ensures c.count.ensures c.in-None.ensures)
-      c.moved_to-moved.ensures.old c.moved_to-moved.ensures.new c.moved_to-moved.ensures.holds read refl,
+          c.moved_to-moved.result record { node = slot.ino; last = c.in-Some.inode.nlink == 1 } c.in-Some.inode
+          (refusal-is c.args.ends.now c.args.old.now c.args.sets.now.blocks c.args.cred.now (Some c.kind_of.result) false c.told_of-told.result c.count.result None c.told_of-told.ensures c.count.ensures c.in-None.ensures)
+          c.moved_to-moved.ensures.old c.moved_to-moved.ensures.new c.moved_to-moved.ensures.holds read refl,
       read,
     )
