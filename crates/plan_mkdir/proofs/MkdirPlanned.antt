@@ -1,5 +1,5 @@
 -- A MKDIR in a parent that stands: its first refusals, and what is told of a free name.
-use Rattle.std.proofs.Common.{◌≡◌, ℕ, ◌/◌, ◌<◌, ◌≤◌, Bool, true, false, not, if◌then◌else◌, List, [], ◌∷◌, length, Option, Some, None, is_some, refl, sym, ap, ◌∙◌, ltb, arith}
+use Rattle.std.proofs.Common.{◌≡◌, ℕ, ◌/◌, ◌<◌, ◌≤◌, Bool, true, false, not, if◌then◌else◌, List, [], ◌∷◌, length, Option, Some, None, is_some, refl, sym, ap, subst, ◌∙◌, ltb, arith}
 use Rattle.std.proofs.lemmas.Bool.{le-ltb}
 use Rattle.std.specs.List.{position}
 use Rattle.files_model.specs.declared.attributes.Attr.{Attr}
@@ -11,7 +11,7 @@ use Rattle.files_model.specs.declared.reply.Stat.{Stat}
 use Rattle.files_model.specs.declared.reply.Stat.TheVariants as stat
 use Rattle.files_model.specs.declared.reply.Reply.TheVariants as reply
 use Rattle.files_model.specs.Answers.{at_live, unless, first_of, attr_of}
-use Rattle.files_model.specs.Files.{Node}
+use Rattle.files_model.specs.Files.{Node, live}
 use Rattle.files_model.specs.NameRows.{mkdir_row, place_tests, at_free_name}
 use Rattle.files_model.specs.Names.{has_name, name_tests, place_for}
 use Rattle.files_model.specs.Permission.{is_directory}
@@ -27,6 +27,8 @@ use Rattle.v7_read.specs.declared.found.Found.{Found}
 use Rattle.v7_sets.specs.Sets.{AreSetsOf}
 use Rattle.plan_name.specs.Judging.{IsTold}
 use Rattle.plan_name.proofs.FoundDirectory.{passed-directory, found-live, found-node, found-attr, found-read_only}
+use Rattle.name_places.specs.Places.{IsNamePlace}
+use Rattle.name_places.specs.declared.place.NamePlace.{NamePlace}
 use Rattle.plan_mkdir.specs.Free.{IsFreeName}
 use Rattle.plan_mkdir.specs.Judging.{mkdir_new}
 
@@ -85,3 +87,9 @@ module _ (image : Image) (dir : FileId) (name : List ℕ) (found : Found) (stron
     pub told-end : (blocks inodes : List Bool) → AreSetsOf image blocks inodes → length (node_at image dir.ino).slots ≤ place_for (node_at image dir.ino).slots
         → IsTold image dir.ino (node_at image dir.ino) (attr_of dir.ino (node_at image dir.ino)) true blocks inodes
     told-end blocks inodes are le = told (attr_of dir.ino (node_at image dir.ino)) true blocks inodes are refl (sym (ap not (le-ltb (place_for (node_at image dir.ino).slots) (length (node_at image dir.ino).slots) le)))
+
+-- what is found in an image that is the same is found in this one
+pub place-same : (image other : Image) (same : other ≡ image) (dir : FileId) (name : List ℕ) (found : Found) (d : Node) (place : NamePlace)
+    → (IsStrong (frame other) → IsFile other dir found → live (view other) dir ≡ Some d → IsNamePlace other dir name d place)
+    → IsStrong (frame image) → IsFile image dir found → live (view image) dir ≡ Some d → IsNamePlace image dir name d place
+place-same image other same dir name found d place h = subst (λ (z : Image). IsStrong (frame z) → IsFile z dir found → live (view z) dir ≡ Some d → IsNamePlace z dir name d place) same h

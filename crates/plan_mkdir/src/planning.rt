@@ -17,7 +17,7 @@ use crate::in_place::plan_in_place;
 use files_model::{Cred, FileId, Name, Sattr, Stat};
 use name_places::{NamePlace, find_place};
 use plan_file::PlanFault;
-use plan_name::{Planned, place_refusal, refused};
+use plan_name::{Planned, Spot, place_refusal, refused};
 use stable::Stable;
 use std::alloc::Global;
 use v7_map::attributes_of;
@@ -55,13 +55,28 @@ pub fn plan_mkdir<S: Stable>(
         Some(status) => return Ok(refused(alloc, status)),
         None => {}
     }
-    match find_place(store, dir, &found, name)? {
-        NamePlace::Taken(_) => Ok(refused(alloc, Stat::Exist)),
-        NamePlace::Empty(spot) => {
+    let place = find_place(store, dir, &found, name)?;
+    match place {
+        NamePlace::Taken(_slot) => Ok(refused(alloc, Stat::Exist)),
+        NamePlace::Empty(empty) => {
+            let spot = Spot {
+                directory: dir,
+                ..empty
+            };
             plan_in_place(alloc, store, sets, &parent, &spot, name, wanted, cred, now)
         }
         NamePlace::End => {
-            plan_at_end(alloc, store, sets, dir, &found.inode, name, wanted, cred, now)
+            plan_at_end(
+                alloc,
+                store,
+                sets,
+                dir,
+                &found.inode,
+                name,
+                wanted,
+                cred,
+                now,
+            )
         }
     }
 }
