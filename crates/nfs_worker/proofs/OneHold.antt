@@ -1,7 +1,7 @@
 -- A call that was made is one event of one hold.
-use Rattle.std.proofs.Common.{◌≡◌, ℕ, ◌+◌, ◌≤◌, List, [], ◌∷◌, Bool, true, refl, sym, inl, arith, length}
+use Rattle.std.proofs.Common.{◌≡◌, ℕ, List, [], ◌∷◌, Bool, true, false, refl, sym, inl, arith}
 use Rattle.files_model.specs.declared.call.Call.{Call}
-use Rattle.files_model.specs.declared.call.Call.TheVariants as call
+use Rattle.files_model.specs.declared.credential.Cred.{Cred}
 use Rattle.files_model.specs.declared.entries.Entry.{Entry}
 use Rattle.files_model.specs.declared.reply.Reply.{Reply}
 use Rattle.files_model.specs.declared.reply.Reply.TheVariants as reply
@@ -11,6 +11,7 @@ use Rattle.files_model.specs.History.{Event, Item}
 use Rattle.files_model.specs.History.Event.{Done, Failed}
 use Rattle.stable.specs.Store.{StaysOpenable}
 use Rattle.stable.specs.declared.store.Stable.{Ghosts}
+use Rattle.stable.specs.Counts.{Rose}
 use Rattle.stable.specs.Moments.{IsClocked}
 use Rattle.stable.proofs.Clocked.{weaker, ends}
 use Rattle.v7_map.specs.Frame.{frame}
@@ -27,6 +28,12 @@ use Rattle.nfs2_proc.specs.declared.handling.Handled.TheVariants as handled
 use Rattle.nfs_worker.specs.Served.{IsServed, Serves}
 use Rattle.nfs_worker.specs.declared.serving.Served.TheVariants as served
 use Rattle.nfs_worker.proofs.Accounts.{grew_hold, grew_same}
+
+-- a volume that is hurt by a call was hurt by a device that failed
+pub hurt_rose : {S : Type 0} (s : Ghosts S) (old new : S) (was is : Bool) (c : Call) (cred : Cred) (now : ℕ) (came : Outcome) → Applies s old new was is c cred now came → is ≡ true → was ≡ false → Rose (s.faults old) (s.faults new)
+hurt_rose s old new was is c cred now (outcome.Reply r) applied hurt sound = let healed = applied.hurts in absurd (cc)
+hurt_rose s old new was is c cred now outcome.Io applied hurt sound = applied.cause.1
+hurt_rose s old new was is c cred now outcome.NoMemory applied hurt sound = let healed = applied.hurts sound in absurd (cc)
 
 module _ {S : Type 0} (s : Ghosts S) (clocked : IsClocked s.tells s.image s.moment s.left_since)
     (volume : ℕ) (old new : S) (was is : Bool) (number now : ℕ) (item : Item) (row : is_served item.call ≡ true) (weak : s.tells → IsWeak (frame (s.image new)))

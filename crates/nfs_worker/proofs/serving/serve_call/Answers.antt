@@ -3,7 +3,7 @@ use Rattle.files_model.specs.History.{Item}
 use Rattle.nfs2_wire.specs.Replies.{longest_of}
 use Rattle.volume.specs.Mounted.{store_of, is_hurt}
 use Rattle.nfs_worker.proofs.Accounts.{grew_none}
-use Rattle.nfs_worker.proofs.OneHold.{served_bytes, served_none}
+use Rattle.nfs_worker.proofs.OneHold.{hurt_rose, served_bytes, served_none}
 use Rattle.nfs_worker.proofs.Resting.{stays_so}
 use Rattle.nfs_worker.proofs.serving.serve_call.Goals as goal
 
@@ -34,3 +34,17 @@ returns-in-NoMemory-clause-served g c =
     let item : Item = record { xid = c.args.xid; from = c.args.from; call = c.args.call.now; cred = c.args.cred.now } in
     served_none s g.met.S.Stable.clocked c.args.at (store_of old) (store_of new) (is_hurt old) (is_hurt new) c.args.number c.args.now item c.requires.row c.in-NoMemory.ensures.rest.weak (λ told. c.in-NoMemory.ensures.opens)
     _ _ c.in-NoMemory.ensures.handled
+
+pub returns-in-Bytes-clause-rest : goal.returns-in-Bytes-clause-rest
+returns-in-Bytes-clause-rest g c =
+    let handled = c.in-Bytes.ensures.handled in record {
+      rest = c.in-Bytes.ensures.rest;
+      hurt = hurt_rose g.S.Stable (store_of c.args.volume.now) (store_of c.handle.new.volume) (is_hurt c.args.volume.now) (is_hurt c.handle.new.volume) c.args.call.now c.args.cred.now c.args.now handled.came handled.applied;
+    }
+
+pub returns-in-NoMemory-clause-rest : goal.returns-in-NoMemory-clause-rest
+returns-in-NoMemory-clause-rest g c =
+    let handled = c.in-NoMemory.ensures.handled in record {
+      rest = c.in-NoMemory.ensures.rest;
+      hurt = hurt_rose g.S.Stable (store_of c.args.volume.now) (store_of c.handle.new.volume) (is_hurt c.args.volume.now) (is_hurt c.handle.new.volume) c.args.call.now c.args.cred.now c.args.now handled.came handled.applied;
+    }
