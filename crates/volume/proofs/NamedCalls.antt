@@ -1,5 +1,6 @@
 -- The calls on names, of one form.
 use Rattle.std.proofs.Common.{◌≡◌, ℕ, true, List, refl}
+use Rattle.std.specs.Prelude.{Result, Ok, Err, IfOk}
 use Rattle.files_model.specs.declared.attributes.FileId.{FileId}
 use Rattle.files_model.specs.declared.attributes.Sattr.{Sattr}
 use Rattle.files_model.specs.declared.call.Call.{Call}
@@ -13,7 +14,9 @@ use Rattle.plan_name.specs.Created.{IsHandleReply}
 use Rattle.plan_name.specs.Freeing.{IsDoneReply}
 use Rattle.volume.specs.Applied.{HasForm}
 use Rattle.volume.specs.Costs.{call_cost, most_puts}
-use Rattle.volume.specs.Names.{changes_names}
+use Rattle.plan_name.specs.Creating.{CanBePut}
+use Rattle.plan_name.specs.declared.planned.Planned.{Planned}
+use Rattle.volume.specs.Names.{CanBeDone, changes_names}
 
 -- each of them changes files
 pub is-change : (c : Call) → changes_names c ≡ true → is_change c ≡ true
@@ -36,6 +39,12 @@ cost-is files (call.Symlink dir name text wanted) cred now is = refl
 cost-is files (call.Rename from name to new_name) cred now is = refl
 cost-is files (call.Mkdir dir name wanted) cred now is = refl
 cost-is files _ cred now is = absurd (cc)
+
+-- what can be put and has a form of the call's can be done
+pub can_done : {E : Type 0} (sectors : ℕ) (c : Call) (P : Reply → Type 0) → ((r : Reply) → P r → HasForm c r) → (result : Result Planned E)
+    → IfOk result (λ r. CanBePut sectors (most_puts c) r.plan.puts) → IfOk result (λ r. P r.reply) → IfOk result (CanBeDone sectors c)
+can_done sectors c P form_of (Ok r) fits form = record { fits = fits; form = form_of r.reply form }
+can_done sectors c P form_of (Err e) fits form = tt
 
 -- ---- the forms of replies
 

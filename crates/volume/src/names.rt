@@ -1,5 +1,5 @@
 // The calls that make, take away and change names (RFC 1094 2.2.10 to 2.2.16).
-ghost use Rattle.std.specs.Prelude.{◌≡◌, true, false, IfOk, IsErrOf};
+ghost use Rattle.std.specs.Prelude.{◌≡◌, true, false, IfOk, OnErr, IsErrOf};
 ghost use Rattle.plan_file.specs.declared.fault.PlanFault.TheVariants as fault;
 ghost use Rattle.plan_name.specs.Planned.{IsPlannedCall, TakesFrom};
 ghost use Rattle.stable.specs.Counts.{Rose};
@@ -28,7 +28,7 @@ use stable::Stable;
 use std::alloc::Global;
 use v7_sets::Sets;
 
-/// Plans a call on names. What it takes leaves the sets of what is free; nothing is put.
+/// Plans a call on names. What it takes leaves the sets of what is free, which are as they were after a fault; nothing is put.
 fn plan_names<S: Stable>(
     alloc: Global,
     store: &mut S,
@@ -41,6 +41,7 @@ fn plan_names<S: Stable>(
     ensures planned { S.tells → IsStrong (frame (S.image store.old)) → AreSetsOf (S.image store.old) sets.old.blocks sets.old.inodes → IfOk result (λ r. IsPlannedCall (S.image store.old) (call.now, cred.now) now sets.new r) }
     ensures can { IfOk result (CanBeDone (S.sector_count store.old) call.now) }
     ensures takes { TakesFrom sets.old sets.new }
+    ensures kept { OnErr result (sets.new ≡ sets.old) }
     ensures cause { IsErrOf result fault.Failed → Rose (S.faults store.old) (S.faults store.new) }
     ensures looked { Looked S.Stable store.old store.new }
 {

@@ -1,4 +1,4 @@
-use Rattle.std.proofs.Common.{ℕ, ◌≤◌, refl, sym, subst}
+use Rattle.std.proofs.Common.{ℕ, ◌≤◌, length, refl, sym, subst}
 use Rattle.files_model.specs.Torn.{Asked}
 use Rattle.volume.specs.Costs.{call_cost, most_puts}
 use Rattle.v7_map.specs.View.{view}
@@ -50,4 +50,4 @@ returns-in-Ok-clause-snapshot g c =
     let files = view (g.S.Stable.image c.args.store.now) in
     let same = cost-is files c.args.call.now c.args.cred.now c.args.now c.requires.named in
     cost_planned g.S.Stable _ c.args.store.now c.plan_names.new.store c.carry_out.new.store (most_puts c.args.call.now) (call_cost files c.args.call.now c.args.cred.now c.args.now) made.looked made.can.fits.few
-    (λ told. subst (λ n. _ ≤ n) (sym same) made.can.fits.few) c.carry_out.ensures.puts
+    (λ told. subst (λ (n : ℕ). length c.in-Ok.planned.plan.puts ≤ n) (sym same) made.can.fits.few) c.carry_out.ensures.puts
