@@ -82,7 +82,7 @@ module _ {S : Type 0} (s : Ghosts S) (clocked : IsClocked s.tells s.image s.mome
 
   -- what a call came to, by the bytes that answer it
   pub served_bytes : (room : ℕ) (ready : Ready) → ready.to ≡ item.from → Handles s old new was is volume item.xid item.call item.cred now room (handled.Bytes ready.bytes) → Serves s volume old new number now item (served.Ready ready)
-  served_bytes room ready to handled = by handled.came handled.applied handled.answered
+  served_bytes room ready to done = by done.came done.applied done.answered
     where
       by : (came : Outcome) → Applies s old new was is item.call item.cred now came → IsAnswered volume item.xid room came (handled.Bytes ready.bytes) → Serves s volume old new number now item (served.Ready ready)
       by (outcome.Reply r) applied bytes = (outcome.Reply r, _, refl, served_reply r ready to bytes applied)
@@ -91,7 +91,7 @@ module _ {S : Type 0} (s : Ghosts S) (clocked : IsClocked s.tells s.image s.mome
 
   -- there was no memory for it
   pub served_none : (room left : ℕ) → Handles s old new was is volume item.xid item.call item.cred now room (handled.NoMemory left) → Grew s old new []
-  served_none room left handled = by handled.came handled.applied handled.answered
+  served_none room left done = by done.came done.applied done.answered
     where
       by : (came : Outcome) → Applies s old new was is item.call item.cred now came → IsAnswered volume item.xid room came (handled.NoMemory left) → Grew s old new []
       by (outcome.Reply r) applied none = absurd none

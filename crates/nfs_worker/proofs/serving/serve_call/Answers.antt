@@ -26,8 +26,8 @@ returns-in-Bytes-clause-served g c =
     served_bytes s g.met.S.Stable.clocked c.args.at (store_of old) (store_of new) (is_hurt old) (is_hurt new) c.args.number c.args.now item c.requires.row c.in-Bytes.ensures.rest.weak (λ told. c.in-Bytes.ensures.opens)
     _ _ refl c.in-Bytes.ensures.handled
 
-pub returns-in-NoMemory-clause-served : goal.returns-in-NoMemory-clause-served
-returns-in-NoMemory-clause-served g c =
+pub returns-clause-served : goal.returns-clause-served
+returns-clause-served g c =
     let s = g.S.Stable in
     let old = c.args.volume.now in
     let new = c.handle.new.volume in
@@ -42,8 +42,8 @@ returns-in-Bytes-clause-rest g c =
       hurt = hurt_rose g.S.Stable (store_of c.args.volume.now) (store_of c.handle.new.volume) (is_hurt c.args.volume.now) (is_hurt c.handle.new.volume) c.args.call.now c.args.cred.now c.args.now handled.came handled.applied;
     }
 
-pub returns-in-NoMemory-clause-rest : goal.returns-in-NoMemory-clause-rest
-returns-in-NoMemory-clause-rest g c =
+pub returns-clause-rest : goal.returns-clause-rest
+returns-clause-rest g c =
     let handled = c.in-NoMemory.ensures.handled in record {
       rest = c.in-NoMemory.ensures.rest;
       hurt = hurt_rose g.S.Stable (store_of c.args.volume.now) (store_of c.handle.new.volume) (is_hurt c.args.volume.now) (is_hurt c.handle.new.volume) c.args.call.now c.args.cred.now c.args.now handled.came handled.applied;
