@@ -46,8 +46,8 @@ const CASES: [(usize, u32, usize, Found); 20] = [
     (17, 1, 116, STALE),
     (20, 1, 116, STALE),
     (23, 1, 116, STALE),
-    // a procedure that has no row yet: RMDIR
-    (5, 15, 116, Found::Nothing),
+    // an RMDIR of the empty name
+    (5, 15, 116, Found::Call),
     (5, 2, 116, GARBAGE),
 ];
 

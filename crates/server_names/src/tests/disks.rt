@@ -1,7 +1,7 @@
 //! Volumes with more names, or other files, than the test volume.
 ghost use Rattle.v7_layout.specs.Written.{AddressesFit};
 
-use crate::volumes::{Patch, patched};
+use server_runs::volumes::{Patch, patched};
 use std::alloc::Global;
 use std::test::Fail;
 use v7_layout::Inode;

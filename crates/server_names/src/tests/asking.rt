@@ -1,37 +1,19 @@
 //! Calls by their words, and runs over them.
 
-use crate::outside::{datagram, has_sent_all, rig_of, served_all};
-use crate::worked::{CALL, REPLY, add_words};
 use rig_mem::MemRig;
+use server_runs::outside::{datagram, has_sent_all, rig_of, served_all};
+use server_runs::worked::{CALL, REPLY, add_words};
 use std::alloc::Global;
 use std::test::Fail;
 
-// The procedures (RFC 1094 2.2); WRITE stands with the worked one.
+// The procedures (RFC 1094 2.2).
 pub const GETATTR: u32 = 1;
 
-pub const SETATTR: u32 = 2;
-
 pub const LOOKUP: u32 = 4;
-
-pub const READLINK: u32 = 5;
-
-pub const READ: u32 = 6;
 
 pub const CREATE: u32 = 9;
 
 pub const REMOVE: u32 = 10;
-
-pub const RENAME: u32 = 11;
-
-pub const LINK: u32 = 12;
-
-pub const SYMLINK: u32 = 13;
-
-pub const MKDIR: u32 = 14;
-
-pub const RMDIR: u32 = 15;
-
-pub const READDIR: u32 = 16;
 
 pub const STATFS: u32 = 17;
 
@@ -96,8 +78,7 @@ pub fn request(alloc: Global, user: &[u32; 10], row: Row) -> Result<Vec<u8>, Fai
     Ok(bytes)
 }
 
-/// The datagram of its reply.
-pub fn reply(alloc: Global, row: Row) -> Result<Vec<u8>, Fail> {
+fn reply(alloc: Global, row: Row) -> Result<Vec<u8>, Fail> {
     let mut bytes = Vec::new(alloc);
     add_words(&mut bytes, &REPLY)?;
     for words in row.3 {

@@ -1,9 +1,0 @@
-//! Runs over memory: trees, and sessions of the programs.
-
-mod cuts;
-mod disks;
-mod limits;
-mod moves;
-mod refusals;
-mod sessions;
-mod walks;
