@@ -5,7 +5,7 @@ use Rattle.nfs_worker.specs.declared.turning.Ended.{Ended}
 use Rattle.nfs_worker.specs.declared.turning.Ended.TheVariants as ended
 use Rattle.run_lines.specs.Lines.{device_line}
 
-pub last_failed : (way : Ended) (failed : Bool) → failed ≡ true → last_lines way failed ≡ device_line ∷ []
+pub last_failed : (way : Ended) (failed : Bool) → failed ≡ true → last_lines way failed ≡ device_line 0 ∷ []
 last_failed way true is = refl
 last_failed way false is = cc
 

@@ -20,8 +20,7 @@ use Rattle.v7_map.specs.Weak.{IsWeak}
 use Rattle.v7_damage.specs.Undamaged.{IsFaultOf}
 use Rattle.volume.specs.Opens.{name_in, root_in}
 use Rattle.nfs_worker.specs.Tending.{IsError}
-use Rattle.run_lines.specs.Overlays.{overlay_of}
-use Rattle.run_lines.proofs.Overlays.{unit_store}
+use Rattle.run_lines.specs.Overlays.{overlay_of, unit_store}
 use Rattle.nfs_server.specs.Course.{Course, Start, Stop, Usage, NoRig, NoUnit, NoVolume, NoPost, Ran}
 use Rattle.nfs_server.specs.Kept.{IsFound, FoundAs}
 use Rattle.nfs_server.specs.Run.{IsServedAs, OpensAs}

@@ -23,8 +23,8 @@ use Rattle.volume.specs.Keeps.{SameName}
 use Rattle.volume.specs.Opens.{name_in}
 use Rattle.nfs_worker.specs.Account.{Hold, history, Grew, HasGrown, IsRecovered, MarksWithin, Lasts}
 use Rattle.nfs_worker.proofs.Accounts.{recovered_left, marks_later}
-use Rattle.run_lines.specs.Overlays.{overlay_of, overlays_of}
-use Rattle.run_lines.proofs.Overlays.{unit_store, opens_now, image_shown}
+use Rattle.run_lines.specs.Overlays.{overlay_of, overlays_of, unit_store}
+use Rattle.run_lines.proofs.Overlays.{opens_now, image_shown}
 use Rattle.nfs_server.specs.Kept.{Kept}
 
 module _ {R : Type 0} (r : Ghosts R) (clocked : IsClocked r.tells r.contents r.moment r.left_since) where

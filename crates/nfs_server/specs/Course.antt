@@ -107,7 +107,7 @@ end_lines ended.Halted = []
 
 -- and what is said after a device failed in stopping
 abbrev pub last_lines : Ended → Bool → List (List ℕ)
-last_lines way failed = if failed then device_line ∷ [] else end_lines way
+last_lines way failed = if failed then device_line 0 ∷ [] else end_lines way
 
 abbrev pub closing_lines : Stop → Ended → ℕ → ℕ → List (List ℕ)
 closing_lines stop way received answered = stopped_line stop.state stop.dirty ∷ numbers_line received answered (received - answered) ∷ last_lines way (fails stop)
@@ -115,8 +115,8 @@ closing_lines stop way received answered = stopped_line stop.state stop.dirty �
 abbrev pub lines_of : Course → List (List ℕ)
 lines_of Usage = usage_line ∷ []
 lines_of (NoRig word fault) = host_line (no_volume_line word) fault ∷ []
-lines_of (NoUnit fault) = unit_line fault ∷ []
-lines_of (NoVolume fault) = volume_line fault ∷ []
+lines_of (NoUnit fault) = unit_line 0 fault ∷ []
+lines_of (NoVolume fault) = volume_line 0 fault ∷ []
 lines_of (NoPost start fault stop) = start_lines start ++ host_line no_port_line fault ∷ []
 lines_of (Ran start way did stop) = start_lines start ++ closing_lines stop way (datagrams did.heard) (length did.replies)
 

@@ -152,7 +152,7 @@ fn serve_volume<H: Host, S: Tended + Drop>(
 {
     let second = host.now();
     match Volume::open(alloc, store, second) {
-        Err((fault, store)) => (refuse(host, volume_refusal(fault)), store),
+        Err((fault, store)) => (refuse(host, volume_refusal(0, fault)), store),
         Ok((volume, _repaired)) => serve_open(alloc, host, volume, second, recovery, options),
     }
 }
@@ -168,7 +168,7 @@ fn serve_rig<H: Host, R: Rig + Drop>(
     ensures served { ServedRig H.Host.own H.Say R.Rig H.L.Link H.C.Clock (options_read options) host.old host.new rig result.1 result.0 }
 {
     match open(alloc, rig, options.accept_loss) {
-        Err((fault, rig)) => (refuse(host, unit_refusal(fault)), rig),
+        Err((fault, rig)) => (refuse(host, unit_refusal(0, fault)), rig),
         Ok(
             Opened {
                 presto,
