@@ -1,0 +1,46 @@
+use Rattle.std.proofs.Common.{arith, ◌≡◌, ◌<◌, ◌≤◌, ◌∷◌, [], ◌++◌, ◌∙◌, List, length, refl, sym, ap, subst, append_assoc, append-nil}
+use Rattle.std.proofs.lemmas.List.{length-append}
+use Rattle.std.specs.List.{AllByRecursion}
+use Rattle.std.specs.Vec.Iter.{into_iter_items}
+use Rattle.volume.specs.Rests.{Rests}
+use Rattle.run_lines.specs.Overlays.{unit_store}
+use Rattle.server_volumes.specs.Ends.{EndsAll}
+use Rattle.server_volumes.specs.declared.stopping.Stopped.{Stopped}
+use Rattle.server_volumes.proofs.Givens.{ends_none, ends_one, before_last, nothing_left}
+use Rattle.server_volumes.proofs.Lists.{ends_length}
+use Rattle.server_volumes.proofs.ending.stop_all.Goals as goal
+
+pub loop-volume-init : goal.loop-volume-init
+loop-volume-init g c = record {
+  ends = subst (λ (all : List Stopped). EndsAll g.H.Host.own g.H.Say g.H.R.Rig c.args.host.now c.args.host.now [] all) (sym c.new-all.ensures) (ends_none g.H.Host.own g.H.Say g.H.R.Rig c.args.host.now);
+  rest = subst (AllByRecursion (Rests (unit_store g.H.R.Rig))) (sym c.into_iter-volume-iterator.ensures.into_iter_gives.0) c.requires.rest;
+  whole = refl;
+  left = c.into_iter-volume-iterator.ensures.into_iter_gives.1;
+}
+
+pub loop-volume-preserved : goal.loop-volume-preserved
+loop-volume-preserved g c =
+    let at = c.loop-volume in
+    let x = c.in-Some.volume in
+    let steps : into_iter_items at.volume-iterator ≡ x ∷ into_iter_items c.next.new.self = c.in-Some.ensures.steps.0 in
+    let rests = subst (AllByRecursion (Rests (unit_store g.H.R.Rig))) steps at.invariant.rest in
+    let gave = c.give_back_rig.ensures in
+    record {
+      ends = ?;
+      rest = rests.1;
+      whole = append_assoc at.yielded (x ∷ []) _ ∙ rw (← steps) at.invariant.whole;
+      left = (
+          let was = at.invariant.left in
+          let gone = c.in-Some.ensures.steps.1 in
+          let short = ap length steps in
+          omega arith
+          );
+    }
+
+pub returns : goal.returns
+returns g c =
+    let at = c.loop-volume in
+    let none = c.in-None.ensures.steps in
+    let empty : into_iter_items at.volume-iterator ≡ [] = nothing_left _ (sym at.invariant.left ∙ none.0) in
+    let all = sym (append-nil at.yielded) ∙ rw empty at at.invariant.whole ∙ c.into_iter-volume-iterator.ensures.into_iter_gives.0 in
+    subst (λ l. EndsAll g.H.Host.own g.H.Say g.H.R.Rig c.args.host.now at.host l at.all.items) all at.invariant.ends
