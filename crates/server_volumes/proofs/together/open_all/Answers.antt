@@ -23,9 +23,10 @@ loop-named-preserved g c =
     let counted = at.invariant.count in
     let longer = length-append more (c.in-Ok-open_one.volume ∷ []) in
     let same = ap length pushed.items in
+    let number : c.len.result ≡ length more = (let counted = c.len.ensures in let whole = at.volumes.ok in omega (arith, counted, whole)) in
     record {
       opens = subst (λ volumes. OpensAll g.H.Host g.H.Say g.H.R.Rig c.args.options c.args.host.now c.open_one.new.host volumes) (sym pushed.items)
-          (opens_more g.H.Host g.H.Say g.H.R.Rig c.args.options more c.in-Ok-open_one.volume _ refl at.invariant.opens c.in-Ok-open_one.ensures.opened);
+          (opens_more g.H.Host g.H.Say g.H.R.Rig c.args.options more c.in-Ok-open_one.volume c.len.result number at.invariant.opens c.in-Ok-open_one.ensures.opened);
       count = omega (arith, counted, longer, same);
       room = (let room = at.invariant.room in let keeps = pushed.capacity in omega (arith, room, keeps));
     }
