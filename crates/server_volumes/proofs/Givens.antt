@@ -1,5 +1,5 @@
 -- What a host gave, one rig after another, and took back.
-use Rattle.std.proofs.Common.{arith, ◌≡◌, ◌∙◌, ℕ, suc, ◌+◌, ◌-◌, ◌<◌, ◌≤◌, List, [], ◌∷◌, ◌++◌, length, refl, sym, ap, subst}
+use Rattle.std.proofs.Common.{arith, ◌≡◌, ◌∙◌, ℕ, zero, suc, ◌+◌, ◌-◌, ◌<◌, ◌≤◌, List, [], ◌∷◌, ◌++◌, length, map, slice_get, Some, refl, sym, ap, subst}
 use Rattle.std.proofs.lemmas.List.{length-append}
 use Rattle.rig.specs.Hosts.{SameLines, SameLoans, TakesBack}
 use Rattle.rig.specs.declared.host.Host.{Ghosts as HostGhosts}
@@ -20,6 +20,12 @@ use Rattle.server_volumes.proofs.Lists.{ends_more, lines_more, open_more, open_s
 pub nothing_left : {A : Type 0} (xs : List A) → length xs ≡ 0 → xs ≡ []
 nothing_left [] none = refl
 nothing_left (x ∷ xs) none = absurd (omega (arith, none))
+
+-- what stands at a place
+pub item_at : {A B : Type 0} (f : A → B) (xs : List A) (n : ℕ) → n < length xs → (y : B) × (slice_get (map f xs) n ≡ Some y)
+item_at f [] n lt = absurd (omega (arith, lt))
+item_at f (x ∷ xs) zero lt = (f x, refl)
+item_at f (x ∷ xs) (suc n) lt = item_at f xs n (omega (arith, lt))
 
 -- one that isn't the last has others after it
 pub before_last : {A : Type 0} (xs ys zs : List A) (x : A) → xs ++ (x ∷ ys) ≡ zs → length xs < length zs

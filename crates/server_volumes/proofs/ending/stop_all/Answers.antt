@@ -46,7 +46,7 @@ loop-volume-preserved g c =
     let some : 0 < g.H.Host.rigs_out at.host = (let out = c.requires.out in let left = at.invariant.ends.out in omega (arith, before, out, left)) in
     record {
       ends = subst (λ (all : List Stopped). EndsAll g.H.Host g.H.Say g.H.R.Rig c.args.host.now c.give_back_rig.new.self (at.yielded ++ x ∷ []) all) (sym c.push.ensures.items)
-          (ends_one g.H.Host g.H.Say g.H.R.Rig at.yielded at.all.items x c.stop_rig-rig.result.0 c.stop_rig-rig.result.1 c.len.result (c.len.ensures ∙ ends_length g.H.R.Rig 0 at.yielded at.invariant.ends.backs at.all.items at.invariant.ends.each) some at.invariant.ends c.stop_rig-rig.ensures
+          (ends_one g.H.Host g.H.Say g.H.R.Rig at.yielded at.all.items x c.stop_rig-rig.result.0 c.stop_rig-rig.result.1 c.len.result (c.len.ensures.value ∙ ends_length g.H.R.Rig 0 at.yielded at.invariant.ends.backs at.all.items at.invariant.ends.each) some at.invariant.ends c.stop_rig-rig.ensures
           gave.back gave.posts gave.lines gave.faults);
       rest = rests.1;
       whole = append_assoc at.yielded (x ∷ []) _ ∙ rw (← steps) at.invariant.whole;

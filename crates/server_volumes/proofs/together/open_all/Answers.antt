@@ -1,10 +1,40 @@
-use Rattle.std.proofs.Common.{arith, ◌≡◌, ◌∷◌, [], List, length, refl, sym, ap, subst}
+use Rattle.std.proofs.Common.{arith, ◌≡◌, ◌∷◌, [], List, length, map, refl, sym, ap, subst}
 use Rattle.std.proofs.lemmas.List.{length-append}
 use Rattle.presto_unit.specs.declared.presto.Presto.{Presto}
 use Rattle.volume.specs.declared.mounted.Volume.{Volume}
-use Rattle.server_volumes.specs.Opens.{OpensAll}
-use Rattle.server_volumes.proofs.Givens.{opens_none, opens_more}
+use Rattle.rig.specs.declared.host.HostFault.TheVariants as fault
+use Rattle.run_lines.specs.declared.naming.Named.{Named}
+use Rattle.run_lines.proofs.Sayings.{said_none}
+use Rattle.server_volumes.specs.Obstacles.{NoRig}
+use Rattle.server_volumes.specs.Opens.{OpensAll, OpensSome}
+use Rattle.server_volumes.proofs.Givens.{given_none, item_at, opens_none, opens_more}
 use Rattle.server_volumes.proofs.together.open_all.Goals as goal
+
+pub returns-in_default-clause-refused : goal.returns-in_default-clause-refused
+returns-in_default-clause-refused g c =
+    let h = g.H.Host in
+    let say = g.H.Say in
+    let r = g.H.R.Rig in
+    let host = c.args.host.now in
+    let words = map (λ (named : Named). named.word.now) c.args.asked.now in
+    let some = c.requires.some in
+    let first = item_at (λ (named : Named). named.word.now) c.args.asked.now 0 (omega (arith, some)) in
+    subst (λ (volumes : List (Volume (Presto g.row.H-R.Denot r))). OpensSome h say r c.args.options words host host volumes [] c.no_memory.result) (sym c.new.ensures.items) (record {
+      mid = host;
+      opens = opens_none h say r c.args.options host;
+      word = first.0;
+      next = first.1;
+      none = record {
+        obstacle = NoRig first.0 fault.NoMemory;
+        refuses = c.no_memory.ensures;
+        of_word = refl;
+        rigs = [];
+        given = given_none h;
+        hinders = tt;
+        host = λ is. absurd (omega (arith, is));
+        said = said_none say;
+      };
+    })
 
 pub loop-named-init : goal.loop-named-init
 loop-named-init g c =
