@@ -12,7 +12,7 @@ use Rattle.server_volumes.proofs.ending.stop_all.Goals as goal
 
 pub loop-volume-init : goal.loop-volume-init
 loop-volume-init g c = record {
-  ends = subst (λ (all : List Stopped). EndsAll g.H.Host.own g.H.Say g.H.R.Rig c.args.host.now c.args.host.now [] all) (sym c.new-all.ensures) (ends_none g.H.Host.own g.H.Say g.H.R.Rig c.args.host.now);
+  ends = subst (λ (all : List Stopped). EndsAll g.H.Host g.H.Say g.H.R.Rig c.args.host.now c.args.host.now [] all) (sym c.new-all.ensures) (ends_none g.H.Host g.H.Say g.H.R.Rig c.args.host.now);
   rest = subst (AllByRecursion (Rests (unit_store g.H.R.Rig))) (sym c.into_iter-volume-iterator.ensures.into_iter_gives.0) c.requires.rest;
   whole = refl;
   left = c.into_iter-volume-iterator.ensures.into_iter_gives.1;
@@ -25,8 +25,13 @@ loop-volume-preserved g c =
     let steps : into_iter_items at.volume-iterator ≡ x ∷ into_iter_items c.next.new.self = c.in-Some.ensures.steps.0 in
     let rests = subst (AllByRecursion (Rests (unit_store g.H.R.Rig))) steps at.invariant.rest in
     let gave = c.give_back_rig.ensures in
+    let whole = at.invariant.whole ∙ c.into_iter-volume-iterator.ensures.into_iter_gives.0 in
+    let before = before_last at.yielded (into_iter_items c.next.new.self) c.args.volumes.items x (rw (← steps) whole) in
+    let some : 0 < g.H.Host.rigs_out at.host = (let out = c.requires.out in let left = at.invariant.ends.out in omega (arith, before, out, left)) in
     record {
-      ends = ?;
+      ends = subst (λ (all : List Stopped). EndsAll g.H.Host g.H.Say g.H.R.Rig c.args.host.now c.give_back_rig.new.self (at.yielded ++ x ∷ []) all) (sym c.push.ensures.items)
+          (ends_one g.H.Host g.H.Say g.H.R.Rig at.yielded at.all.items x c.stop_rig-rig.result.0 c.stop_rig-rig.result.1 _ (ends_length g.H.R.Rig 0 at.yielded at.invariant.ends.backs at.all.items at.invariant.ends.each) some at.invariant.ends c.stop_rig-rig.ensures
+          gave.back gave.posts gave.lines gave.faults);
       rest = rests.1;
       whole = append_assoc at.yielded (x ∷ []) _ ∙ rw (← steps) at.invariant.whole;
       left = (
@@ -43,4 +48,4 @@ returns g c =
     let none = c.in-None.ensures.steps in
     let empty : into_iter_items at.volume-iterator ≡ [] = nothing_left _ (sym at.invariant.left ∙ none.0) in
     let all = sym (append-nil at.yielded) ∙ rw empty at at.invariant.whole ∙ c.into_iter-volume-iterator.ensures.into_iter_gives.0 in
-    subst (λ l. EndsAll g.H.Host.own g.H.Say g.H.R.Rig c.args.host.now at.host l at.all.items) all at.invariant.ends
+    subst (λ l. EndsAll g.H.Host g.H.Say g.H.R.Rig c.args.host.now at.host l at.all.items) all at.invariant.ends

@@ -5,7 +5,7 @@ use Rattle.server_volumes.proofs.together.open_all.Given as goal
 
 abbrev pub invariant-loop-named : goal.invariant-loop-named
 invariant-loop-named g l = record {
-  opens : OpensAll g.H.Host.own g.H.Say g.H.R.Rig l.options l.fn.host l.host l.volumes.items;
+  opens : OpensAll g.H.Host g.H.Say g.H.R.Rig l.options l.fn.host l.host l.volumes.items;
   count : length l.volumes.items ≡ l.named-index;
   room : length l.asked ≤ vec_capacity l.volumes;
 }
