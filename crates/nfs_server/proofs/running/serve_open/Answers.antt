@@ -11,7 +11,7 @@ use Rattle.nfs_server.proofs.running.serve_open.Goals as goal
 
 pub returns-in-Err : goal.returns-in-Err
 returns-in-Err g c =
-    let h = g.H.Host.own in
+    let h = g.H.Host in
     let say = g.H.Say in
     let r = g.H.R.Rig in
     let host = c.args.host.now in
@@ -21,7 +21,7 @@ returns-in-Err g c =
 
 pub returns-in-Err-post : goal.returns-in-Err-post
 returns-in-Err-post g c =
-    let h = g.H.Host.own in
+    let h = g.H.Host in
     let say = g.H.Say in
     let r = g.H.R.Rig in
     let why = c.in-Err-post.fault in
@@ -32,7 +32,7 @@ returns-in-Err-post g c =
 
 pub returns-in-Ok-post : goal.returns-in-Ok-post
 returns-in-Ok-post g c =
-    let h = g.H.Host.own in
+    let h = g.H.Host in
     let say = g.H.Say in
     let r = g.H.R.Rig in
     let gave = c.in-Ok-post.ensures in
