@@ -1,11 +1,10 @@
--- A call that a datagram asks has a row, and is on an open volume.
+-- A call that a datagram asks is on an open volume.
 use Rattle.std.proofs.Common.{◌≡◌, ℕ, ◌<◌, Bool, true, false, cond, List, refl, sym, ap, ◌∙◌, subst, eqb, ltb, Option, Some, None, Result, Ok, Err, arith}
 use Rattle.std.proofs.lemmas.Bool.{ltb-true}
 use Rattle.files_model.specs.declared.attributes.FileId.{FileId}
 use Rattle.files_model.specs.declared.call.Call.{Call}
 use Rattle.files_model.specs.declared.call.Call.TheVariants as call
 use Rattle.files_model.specs.declared.credential.Cred.{Cred}
-use Rattle.served_calls.specs.Served.{is_served}
 use Rattle.xdr_rpc.specs.declared.call.RpcCall.{RpcCall}
 use Rattle.xdr_rpc.specs.declared.tests_in_order.Unserved.TheVariants.{NoReply, Refused}
 use Rattle.xdr_rpc.specs.Order.{Test, call_of}
@@ -27,7 +26,7 @@ use Rattle.presto_rpc.specs.declared.control.Control.TheVariants as asks
 use Rattle.presto_rpc.specs.Controls.{control}
 use Rattle.presto_rpc.specs.Replies.{answer_bytes}
 use Rattle.datagrams.specs.declared.datagram.Datagram.TheVariants.{NoMeaning, Outside, Asks, Mount, Command, Status, Halt}
-use Rattle.datagrams.specs.Meaning.{asked_on, nfs_meaning, control_meaning, asked, meaning_of, meaning}
+use Rattle.datagrams.specs.Meaning.{nfs_meaning, control_meaning, asked, meaning_of, meaning}
 
 abbrev IsOpenResult : ℕ → Result VolumeCall Unread → Type 0
 IsOpenResult volumes (Ok asked) = asked.volume < volumes
@@ -39,15 +38,10 @@ IsOpenRead volumes read.Stale = Unit {0}
 IsOpenRead volumes read.Void = Unit {0}
 IsOpenRead volumes read.Garbage = Unit {0}
 
--- a call that has a row, on a volume that is open
-pub record IsOpenCall (volumes volume : ℕ) (c : Call) : Type 0 where
-  pub row : is_served c ≡ true
-  pub open_volume : volume < volumes
-
 abbrev pub IsOpenMeaning : ℕ → Datagram → Type 0
 IsOpenMeaning volumes NoMeaning = Unit {0}
 IsOpenMeaning volumes (Outside reply) = Unit {0}
-IsOpenMeaning volumes (Asks xid volume cred c) = IsOpenCall volumes volume c
+IsOpenMeaning volumes (Asks xid volume cred c) = volume < volumes
 IsOpenMeaning volumes (Mount rpc) = Unit {0}
 IsOpenMeaning volumes (Command xid volume command) = volume < volumes
 IsOpenMeaning volumes (Status xid volume) = volume < volumes
@@ -102,12 +96,8 @@ open_read procedure bytes volumes =
 
 -- ---- what a datagram means
 
-open_on : (volumes xid volume : ℕ) (cred : Cred) (c : Call) (b : Bool) → is_served c ≡ b → volume < volumes → IsOpenMeaning volumes (cond b (Asks xid volume cred c) NoMeaning)
-open_on volumes xid volume cred c true row lt = record { row = row; open_volume = lt }
-open_on volumes xid volume cred c false none lt = tt
-
 open_nfs : (volumes : ℕ) (rpc : RpcCall) (r : NfsCall) → IsOpenRead volumes r → IsOpenMeaning volumes (nfs_meaning rpc r)
-open_nfs volumes rpc (read.Call volume c) h = open_on volumes rpc.xid volume rpc.cred c (is_served c) refl h
+open_nfs volumes rpc (read.Call volume c) h = h
 open_nfs volumes rpc read.Stale h = tt
 open_nfs volumes rpc read.Void h = tt
 open_nfs volumes rpc read.Garbage h = tt

@@ -4,7 +4,6 @@ use Rattle.files_model.specs.declared.call.Call.{Call}
 use Rattle.files_model.specs.declared.credential.Cred.{Cred}
 use Rattle.files_model.specs.declared.reply.Reply.TheVariants.{Refused as Refusal}
 use Rattle.files_model.specs.declared.reply.Stat.TheVariants as stat
-use Rattle.served_calls.specs.Served.{is_served}
 use Rattle.xdr_rpc.specs.declared.call.RpcCall.{RpcCall}
 use Rattle.xdr_rpc.specs.declared.refusal.Cause.TheVariants.{Done, Garbage, TooWeak}
 use Rattle.xdr_rpc.specs.declared.tests_in_order.Unserved.TheVariants.{NoReply, Refused}
@@ -21,13 +20,9 @@ use Rattle.presto_rpc.specs.Controls.{control}
 use Rattle.presto_rpc.specs.Replies.{answer_bytes}
 use Rattle.datagrams.specs.declared.datagram.Datagram.TheVariants.{NoMeaning, Outside, Asks, Mount, Command, Status, Halt}
 
--- a call on an open volume; one without a row of the step means nothing yet
-abbrev pub asked_on : ℕ → ℕ → Cred → Call → Datagram
-asked_on xid volume cred call = if is_served call then Asks xid volume cred call else NoMeaning
-
 -- a handle that names no file of an open volume is answered STALE
 abbrev pub nfs_meaning : RpcCall → NfsCall → Datagram
-nfs_meaning rpc (read.Call volume call) = asked_on rpc.xid volume rpc.cred call
+nfs_meaning rpc (read.Call volume call) = Asks rpc.xid volume rpc.cred call
 nfs_meaning rpc read.Stale = Outside (bytes_of rpc.xid (Refusal stat.Stale) 0)
 nfs_meaning rpc read.Void = Outside (refusal rpc.xid Done)
 nfs_meaning rpc read.Garbage = Outside (refusal rpc.xid Garbage)

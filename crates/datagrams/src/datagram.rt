@@ -5,13 +5,12 @@ ghost use Rattle.xdr_rpc.specs.declared.call.RpcCall.{RpcCall};
 ghost use Rattle.xdr_rpc.specs.Order.{call_of};
 ghost use Rattle.xdr_rpc.specs.Sending.{sent_as};
 ghost use Rattle.presto_rpc.specs.Controls.{control};
-ghost use Rattle.datagrams.specs.Meaning.{asked_on, nfs_meaning, on_open, control_meaning, asked, meaning};
+ghost use Rattle.datagrams.specs.Meaning.{nfs_meaning, on_open, control_meaning, asked, meaning};
 ghost use Rattle.datagrams.specs.Sending.{Sends};
 
 use files_model::{Call, Cred, NoMemory};
 use nfs2_wire::{NfsCall, read_arguments, stale_reply};
 use presto_rpc::{Control, read_control, write_answer};
-use served_calls::is_served;
 use stable::Command;
 use std::alloc::Global;
 use xdr_rpc::{RpcCall, RpcRead, ShortReply, garbage_reply, read_rpc, too_weak_reply, void_reply};
@@ -57,26 +56,16 @@ pub enum Datagram {
     },
 }
 
-fn call_on(xid: u32, cred: Cred, volume: u32, call: Call) -> Datagram
-    ensures { result ≡ asked_on xid volume cred call }
-{
-    if is_served(&call) {
-        Datagram::Asks {
-            xid,
-            volume,
-            cred,
-            call,
-        }
-    } else {
-        Datagram::NoMeaning
-    }
-}
-
 fn nfs_datagram(rpc: RpcCall, read: NfsCall) -> Datagram
     ensures { result ≡ nfs_meaning rpc read }
 {
     match read {
-        NfsCall::Call { volume, call } => call_on(rpc.xid, rpc.cred, volume, call),
+        NfsCall::Call { volume, call } => Datagram::Asks {
+            xid: rpc.xid,
+            volume,
+            cred: rpc.cred,
+            call,
+        },
         NfsCall::Stale => Datagram::Outside(stale_reply(rpc.xid)),
         NfsCall::Void => Datagram::Outside(void_reply(rpc.xid)),
         NfsCall::Garbage => Datagram::Outside(garbage_reply(rpc.xid)),

@@ -1,8 +1,7 @@
 // One call on a volume, answered.
-ghost use Rattle.std.specs.Prelude.{◌≡◌, ◌≤◌, true};
+ghost use Rattle.std.specs.Prelude.{◌≡◌, ◌≤◌};
 ghost use Rattle.nfs2_proc.specs.Handles.{Handles};
 ghost use Rattle.nfs2_wire.specs.Replies.{longest_of};
-ghost use Rattle.served_calls.specs.Served.{is_served};
 ghost use Rattle.stable.specs.Store.{StaysOpenable};
 ghost use Rattle.v7_map.specs.View.{view};
 ghost use Rattle.volume.specs.Costs.{CostsAtMost, call_cost, most_puts};
@@ -35,7 +34,6 @@ pub fn handle<S: Tended>(
     now: u32,
     room: Room,
 ) -> Handled
-    requires served { is_served call.now ≡ true }
     requires rest { Rests S.Stable volume.old }
     requires room { longest_of call.now ≤ room }
     ensures rest { Rests S.Stable volume.new }

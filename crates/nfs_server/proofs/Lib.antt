@@ -1,8 +1,7 @@
 pub mod Devices
+pub mod Ends
 pub mod Endings
-pub mod Founds
-pub mod One
-pub mod Overlays
-pub mod Statuses
-pub mod Stops
-pub mod Understanding
+pub mod Lists
+pub mod Names
+pub mod Outcomes
+pub mod Workers

@@ -1,73 +1,38 @@
 -- How far a run comes, and what it says and answers (docs/CALLS.md, "Lines and statuses").
-use Rattle.std.specs.Prelude.{◌≡◌, ℕ, ◌-◌, Bool, true, false, if◌then◌else◌, nat_lt, ◌||◌, List, [], ◌∷◌, ◌++◌, length, codes}
-use Rattle.stable.specs.declared.battery.Battery.{Battery}
-use Rattle.stable.specs.declared.battery.Battery.TheVariants.{Good, Low}
-use Rattle.stable.specs.declared.snapshot.Snapshot.{Snapshot}
-use Rattle.stable.specs.declared.state.State.{State}
-use Rattle.stable.specs.declared.state.State.TheVariants.{Up, Down, Error}
+use Rattle.std.specs.Prelude.{ℕ, ◌+◌, ◌-◌, if◌then◌else◌, List, [], ◌∷◌, ◌++◌, length, Option, Some, None, codes}
 use Rattle.rig.specs.declared.host.HostFault.{HostFault}
-use Rattle.presto_recover.specs.declared.fault.OpenFault.{OpenFault as UnitFault}
-use Rattle.v7_damage.specs.declared.damage.RepairFault.{RepairFault}
 use Rattle.nfs_worker.specs.Turns.{Did, datagrams}
 use Rattle.nfs_worker.specs.declared.turning.Ended.{Ended}
 use Rattle.nfs_worker.specs.declared.turning.Ended.TheVariants as ended
-use Rattle.run_lines.specs.Lines.{no_volume_line, device_line}
-use Rattle.run_lines.specs.Refusals.{host_status, host_line, unit_status, unit_line, volume_status, volume_line}
-use Rattle.nfs_server.specs.Lines.{usage_line, opened_line, loss_line, stopped_line, numbers_line, no_port_line}
+use Rattle.run_lines.specs.Lines.{device_line, no_memory_line}
+use Rattle.run_lines.specs.Refusals.{host_status, host_line}
+use Rattle.server_volumes.specs.Lines.{starts_lines, stopped_line}
+use Rattle.server_volumes.specs.Obstacles.{Obstacle, obstacle_line, obstacle_status}
+use Rattle.server_volumes.specs.Starts.{Start}
+use Rattle.server_volumes.specs.Stopped.{fails}
+use Rattle.server_volumes.specs.declared.stopping.Stopped.{Stopped}
+use Rattle.nfs_server.specs.Lines.{usage_line, numbers_line, no_port_line}
 
--- How a volume was started: its name; how many entries of its board were recovered; whether the board's loss was accepted; its state after that and the
--- opening of the volume, what the battery was read as then, and its state after Up.
-pub record Start : Type 0 where
-  pub name : List ℕ
-  pub recovered : ℕ
-  pub lost : Bool
-  pub opened : State
-  pub battery : Battery
-  pub state : State
+-- How the run over the volumes that were opened ended: the next one wasn't opened; the host gave no post at this port, or there was no memory for a worker; a
+-- worker ran.
+pub data Ending : Type 0 where
+  Unopened : Obstacle → Ending
+  NoPost : ℕ → HostFault → Ending
+  Ran : Ended → Did → Ending
 
--- How it was stopped: its state after Down, and how many entries are left dirty; whether it was hurt, so that no free chain was to be written; and whether
--- the writing of its chain failed.
-pub record Stop : Type 0 where
-  pub state : State
-  pub dirty : ℕ
-  pub hurt : Bool
-  pub unwritten : Bool
-
--- How far a run came: the words aren't of the grammar; the host gave no rig; disk and board weren't opened; there is no volume that can be mended; the host gave no post, or there was no memory for a worker; a worker ran.
+-- How far a run came: there was no memory for its words; they aren't of the grammar; volumes were opened and started so, in the order of the words, the run
+-- over them ended so, and so they were stopped.
 pub data Course : Type 0 where
+  Unread : Course
   Usage : Course
-  NoRig : List ℕ → HostFault → Course
-  NoUnit : UnitFault → Course
-  NoVolume : RepairFault → Course
-  NoPost : Start → HostFault → Stop → Course
-  Ran : Start → Ended → Did → Stop → Course
-
--- how a snapshot shows it
-abbrev pub stop_of : Snapshot → Bool → Bool → Stop
-stop_of snapshot hurt unwritten = record { state = snapshot.state; dirty = snapshot.dirty; hurt = hurt; unwritten = unwritten }
-
--- ---- starting
-
--- the state after Up, where it isn't to stay DOWN; the battery is the one that was read
-abbrev pub state_after : Bool → State → Battery → State
-state_after true opened battery = opened
-state_after false Up battery = Up
-state_after false Down Good = Up
-state_after false Down Low = Down
-state_after false (Error why) battery = Error why
-
--- A volume was started: it was commanded Up, or nothing was done.
-pub record IsStarted (down : Bool) (old new : Snapshot) : Type 0 where
-  pub state : new.state ≡ state_after down old.state new.battery
-  pub dirty : new.dirty ≡ old.dirty
-  pub polls : new.polls ≡ old.polls
-  pub puts : new.puts ≡ old.puts
+  Served : List Start → Ending → List Stopped → Course
 
 -- ---- statuses
 
--- a device failed in stopping: the chain isn't written, or something is left dirty
-abbrev pub fails : Stop → Bool
-fails stop = stop.unwritten || nat_lt 0 stop.dirty
+-- the first of the volumes that a device failed in stopping, where the first of all has this number
+abbrev pub first_failed : ℕ → List Stopped → Option ℕ
+first_failed n [] = None
+first_failed n (stopped ∷ more) = if fails stopped then Some n else first_failed (n + 1) more
 
 -- what the end of the worker gives
 abbrev pub end_status : Ended → ℕ
@@ -75,29 +40,22 @@ end_status ended.Spent = 72
 end_status ended.Closed = 0
 end_status ended.Halted = 0
 
--- and after a device failed in stopping
-abbrev pub closing_status : Ended → Bool → ℕ
-closing_status way failed = if failed then 74 else end_status way
+-- and after a device failed in stopping a volume
+abbrev pub closing_status : Ended → Option ℕ → ℕ
+closing_status way (Some number) = 74
+closing_status way None = end_status way
+
+abbrev pub ending_status : Ending → List Stopped → ℕ
+ending_status (Unopened why) all = obstacle_status why
+ending_status (NoPost port fault) all = host_status fault
+ending_status (Ran way did) all = closing_status way (first_failed 0 all)
 
 abbrev pub status_of : Course → ℕ
+status_of Unread = 75
 status_of Usage = 64
-status_of (NoRig word fault) = host_status fault
-status_of (NoUnit fault) = unit_status fault
-status_of (NoVolume fault) = volume_status fault
-status_of (NoPost start fault stop) = host_status fault
-status_of (Ran start way did stop) = closing_status way (fails stop)
+status_of (Served starts ending all) = ending_status ending all
 
 -- ---- lines
-
--- an accepted loss, and how the volume was started
-abbrev pub loss_lines : Bool → List (List ℕ)
-loss_lines lost = if lost then loss_line ∷ [] else []
-
-abbrev pub opening_lines : List ℕ → ℕ → Bool → State → List (List ℕ)
-opening_lines name recovered lost state = loss_lines lost ++ opened_line name state recovered ∷ []
-
-abbrev pub start_lines : Start → List (List ℕ)
-start_lines start = opening_lines start.name start.recovered start.lost start.state
 
 -- what the end of the worker says
 abbrev pub end_lines : Ended → List (List ℕ)
@@ -105,37 +63,51 @@ end_lines ended.Spent = codes "turns spent" ∷ []
 end_lines ended.Closed = []
 end_lines ended.Halted = []
 
--- and what is said after a device failed in stopping
-abbrev pub last_lines : Ended → Bool → List (List ℕ)
-last_lines way failed = if failed then device_line ∷ [] else end_lines way
+-- and what is said after a device failed in stopping a volume
+abbrev pub last_lines : Ended → Option ℕ → List (List ℕ)
+last_lines way (Some number) = device_line number ∷ []
+last_lines way None = end_lines way
 
-abbrev pub closing_lines : Stop → Ended → ℕ → ℕ → List (List ℕ)
-closing_lines stop way received answered = stopped_line stop.state stop.dirty ∷ numbers_line received answered (received - answered) ∷ last_lines way (fails stop)
+-- how the volumes were stopped, the first of which has this number
+abbrev pub stopped_lines : ℕ → List Stopped → List (List ℕ)
+stopped_lines n [] = []
+stopped_lines n (stopped ∷ more) = stopped_line n stopped.state stopped.dirty ∷ stopped_lines (n + 1) more
+
+abbrev pub closing_lines : List Stopped → Ended → ℕ → ℕ → List (List ℕ)
+closing_lines all way received answered = stopped_lines 0 all ++ numbers_line received answered (received - answered) ∷ last_lines way (first_failed 0 all)
+
+-- of a run over so many volumes
+abbrev pub ending_lines : ℕ → Ending → List Stopped → List (List ℕ)
+ending_lines n (Unopened why) all = obstacle_line n why ∷ []
+ending_lines n (NoPost port fault) all = host_line (no_port_line port) fault ∷ []
+ending_lines n (Ran way did) all = closing_lines all way (datagrams did.heard) (length did.replies)
 
 abbrev pub lines_of : Course → List (List ℕ)
+lines_of Unread = no_memory_line ∷ []
 lines_of Usage = usage_line ∷ []
-lines_of (NoRig word fault) = host_line (no_volume_line word) fault ∷ []
-lines_of (NoUnit fault) = unit_line fault ∷ []
-lines_of (NoVolume fault) = volume_line fault ∷ []
-lines_of (NoPost start fault stop) = start_lines start ++ host_line no_port_line fault ∷ []
-lines_of (Ran start way did stop) = start_lines start ++ closing_lines stop way (datagrams did.heard) (length did.replies)
+lines_of (Served starts ending all) = starts_lines 0 starts ++ ending_lines (length starts) ending all
 
 -- ---- what came of it
 
 -- what the workers did, if one ran
-abbrev pub dids_of : Course → List Did
-dids_of (Ran start way did stop) = did ∷ []
-dids_of Usage = []
-dids_of (NoRig word fault) = []
-dids_of (NoUnit fault) = []
-dids_of (NoVolume fault) = []
-dids_of (NoPost start fault stop) = []
+abbrev pub dids_in : Ending → List Did
+dids_in (Ran way did) = did ∷ []
+dids_in (NoPost port fault) = []
+dids_in (Unopened why) = []
 
--- how many rigs the host gave
-abbrev pub rigs_in : Course → ℕ
-rigs_in Usage = 0
-rigs_in (NoRig word fault) = 0
-rigs_in (NoUnit fault) = 1
-rigs_in (NoVolume fault) = 1
-rigs_in (NoPost start fault stop) = 1
-rigs_in (Ran start way did stop) = 1
+abbrev pub dids_of : Course → List Did
+dids_of (Served starts ending all) = dids_in ending
+dids_of Unread = []
+dids_of Usage = []
+
+-- why a volume wasn't opened, if one wasn't
+abbrev pub obstacle_in : Ending → Option Obstacle
+obstacle_in (Unopened why) = Some why
+obstacle_in (NoPost port fault) = None
+obstacle_in (Ran way did) = None
+
+-- how many volumes were started
+abbrev pub started_in : Course → ℕ
+started_in (Served starts ending all) = length starts
+started_in Unread = 0
+started_in Usage = 0

@@ -1,7 +1,4 @@
-pub mod Asking
 pub mod Course
-pub mod Kept
 pub mod Lines
+pub mod Outcome
 pub mod Run
-pub mod Stopped
-pub mod Words

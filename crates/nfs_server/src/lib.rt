@@ -1,11 +1,9 @@
-//! The server: its words, its volumes and what they stand on, and a run from its words to its status.
+//! The server: a run over the volumes that its words name, from the words to the status.
 #![tactic(auto)]
 
 mod lines;
 mod running;
-mod starting;
 mod telling;
-mod words;
 
 pub use running::serve;
 pub use telling::USAGE;

@@ -5,7 +5,6 @@ use Rattle.files_model.specs.declared.credential.Cred.{Cred}
 use Rattle.files_model.specs.declared.reply.Reply.{Reply}
 use Rattle.files_model.specs.declared.reply.Reply.TheVariants as reply
 use Rattle.files_model.specs.declared.reply.Stat.TheVariants as stat
-use Rattle.served_calls.specs.Served.{is_served}
 use Rattle.files_model.specs.History.{Event, Item}
 use Rattle.files_model.specs.History.Event.{Done, Failed}
 use Rattle.stable.specs.Store.{StaysOpenable}
@@ -35,7 +34,7 @@ hurt_rose s old new was is c cred now outcome.Io applied hurt sound = applied.ca
 hurt_rose s old new was is c cred now outcome.NoMemory applied hurt sound = let healed = applied.hurts sound in absurd (cc)
 
 module _ {S : Type 0} (s : Ghosts S) (clocked : IsClocked s.tells s.image s.moment s.left_since)
-    (volume : ℕ) (old new : S) (was is : Bool) (number now : ℕ) (item : Item) (row : is_served item.call ≡ true) (weak : s.tells → IsWeak (frame (s.image new)))
+    (volume : ℕ) (old new : S) (was is : Bool) (number now : ℕ) (item : Item) (weak : s.tells → IsWeak (frame (s.image new)))
     (opens : s.tells → StaysOpenable s.opens_since s.moment old new) where
   -- a reply, of a volume that was hurt or not
   pub served_reply : (r : Reply) (ready : Ready) → ready.to ≡ item.from → ready.bytes ≡ bytes_of item.xid r volume

@@ -5,7 +5,6 @@ use Rattle.files_model.specs.declared.address.Address.{Address}
 use Rattle.files_model.specs.History.{Event, Item, items_of, time_of}
 use Rattle.stable.specs.declared.store.Stable.{Ghosts}
 use Rattle.rig.specs.declared.link.Link.{Ghosts as LinkGhosts}
-use Rattle.served_calls.specs.Served.{is_served}
 use Rattle.datagrams.specs.declared.datagram.Datagram.{Datagram as Meaning}
 use Rattle.datagrams.specs.declared.datagram.Datagram.TheVariants.{NoMeaning, Asks}
 use Rattle.nfs_worker.specs.Desk.{Change, change_of, Tells}
@@ -25,11 +24,6 @@ use Rattle.nfs_worker.specs.declared.releasing.Released.{Released}
 use Rattle.nfs_worker.specs.declared.turning.DropCause.TheVariants as cause
 use Rattle.nfs_worker.specs.declared.turning.Turn.{Turn}
 use Rattle.nfs_worker.specs.declared.turning.Turn.TheVariants as turn
-
--- a call has a row of the step
-abbrev pub HasRow : Meaning → Type 0
-HasRow (Asks xid volume cred call) = is_served call ≡ true
-HasRow _ = Unit {0}
 
 -- The events are one, of the call that a datagram of this meaning asks of this volume; what is ready is its reply.
 pub record IsOwn (volume : ℕ) (from : Address) (means : Meaning) (events : List Event) (ready : Ready) : Type 0 where

@@ -2,7 +2,7 @@
 ghost use Rattle.std.specs.Prelude.{◌≡◌, ◌≤◌, ◌<◌, length};
 ghost use Rattle.std.specs.List.{AllByRecursion};
 ghost use Rattle.datagrams.specs.Meaning.{meaning};
-ghost use Rattle.nfs_worker.specs.Answers.{Answers, HasRow, is_halting};
+ghost use Rattle.nfs_worker.specs.Answers.{Answers, is_halting};
 ghost use Rattle.nfs_worker.specs.Turns.{place_of};
 ghost use Rattle.nfs_worker.specs.Volumes.{AreOpen, OneAlone};
 ghost use Rattle.volume.specs.Rests.{Rests};
@@ -80,7 +80,6 @@ fn react<S: Tended>(
     requires rest { Rests S.Stable volume.old }
     requires mounts { length desk.old.roots ≡ desk.old.mounts.volumes }
     requires puts { at < length desk.old.first_puts }
-    requires row { HasRow datagram }
     requires place { at ≡ place_of datagram }
     ensures { Answers S.Stable at volume.old volume.new desk.old desk.new asked.number asked.now asked.from datagram result }
 {

@@ -1,6 +1,4 @@
 //! One hold of a volume for one call.
-ghost use Rattle.std.specs.Prelude.{◌≡◌, true};
-ghost use Rattle.served_calls.specs.Served.{is_served};
 ghost use Rattle.nfs_worker.specs.Served.{Serves};
 ghost use Rattle.nfs_worker.specs.Tending.{IsUntended};
 ghost use Rattle.nfs_worker.specs.Resting.{StaysAtRest};
@@ -38,7 +36,6 @@ pub fn serve_call<S: Tended>(
     cred: &Cred,
     now: u32,
 ) -> Served
-    requires row { is_served call.now ≡ true }
     requires rest { Rests S.Stable volume.old }
     ensures rest { StaysAtRest S.Stable volume.old volume.new }
     ensures served { Serves S.Stable at (store_of volume.old) (store_of volume.new) number now (record { xid = xid; from = from; call = call.now; cred = cred.now }) result }

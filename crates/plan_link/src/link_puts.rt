@@ -1,13 +1,11 @@
 // The puts of a LINK.
 
-ghost use Rattle.std.specs.Prelude.{◌≡◌, ◌<◌, ◌≤◌, ◌+◌, ℕ, List, [], length, OnOk};
+ghost use Rattle.std.specs.Prelude.{◌≡◌, ◌<◌, ◌≤◌, ℕ, List, [], length, OnOk};
 ghost use Rattle.files_model.specs.Files.{Node};
 ghost use Rattle.files_model.specs.declared.call.Call.TheVariants.{Link};
 ghost use Rattle.files_model.specs.declared.credential.Cred.{Cred};
 ghost use Rattle.plan_link.specs.Links.{Links, IsPlannedLink, entry_of};
-ghost use Rattle.plan_name.specs.Creating.{StandWithin, MapWithin, LaysOut, CanBePut};
-ghost use Rattle.stable.specs.Counts.{HasCause};
-ghost use Rattle.stable.specs.Looked.{Looked};
+ghost use Rattle.plan_name.specs.Creating.{StandWithin, MapWithin, LaysOut, Builds};
 ghost use Rattle.v7_map.specs.Frame.{Place, frame};
 ghost use Rattle.v7_map.specs.Weak.{IsStrong};
 ghost use Rattle.v7_strokes.specs.Entries.{entry_sector};
@@ -52,10 +50,7 @@ pub(crate) fn add_in_place<S: Stable>(
     requires room { 3 ≤ plan.old.room }
     requires within { StandWithin (S.sector_count store.old) link.now.file.ino (entry_of link.now) }
     ensures planned { S.tells → IsStrong (frame (S.image store.old)) → (name : List ℕ) (cred : Cred) (n d : Node) → Links (S.image store.old) link.now name cred now n d → link.now.spot.index < length d.slots → link.now.spot.sector ≡ entry_sector (S.image store.old) link.now.spot.directory.ino link.now.spot.index → OnOk result (IsPlannedLink (S.image store.old) (Link link.now.file link.now.spot.directory name, cred) now [] plan.new.puts) }
-    ensures fits { OnOk result (CanBePut (S.sector_count store.old) 3 plan.new.puts) }
-    ensures room { OnOk result (plan.new.room ≡ plan.old.room) }
-    ensures cause { HasCause (S.faults store.old) (S.faults store.new) result }
-    ensures looked { Looked S.Stable store.old store.new }
+    ensures built { Builds S.Stable store.old store.new 3 plan.old plan.new result }
 {
     let _node = add_linked(store, plan, link.file.ino, now)?;
     let _slot = add_slot(store, plan, link.spot.sector, link.spot.index, &link.slot)?;
@@ -77,10 +72,7 @@ pub(crate) fn add_at_end<S: Stable>(
     requires within { StandWithin (S.sector_count store.old) link.now.file.ino (entry_of link.now) × MapWithin (S.sector_count store.old) longer.now }
     requires fits { BlocksFit longer.now.blocks }
     ensures planned { S.tells → IsStrong (frame (S.image store.old)) → (name : List ℕ) (cred : Cred) (n d : Node) (target : Place → ℕ) (new : List ℕ) → Links (S.image store.old) link.now name cred now n d → link.now.spot.index ≡ length d.slots → LaysOut (S.image store.old) (entry_of link.now) longer.now target new → OnOk result (IsPlannedLink (S.image store.old) (Link link.now.file link.now.spot.directory name, cred) now new plan.new.puts) }
-    ensures fits { OnOk result (CanBePut (S.sector_count store.old) 4 plan.new.puts) }
-    ensures room { OnOk result (plan.new.room ≡ plan.old.room) }
-    ensures cause { HasCause (S.faults store.old) (S.faults store.new) result }
-    ensures looked { Looked S.Stable store.old store.new }
+    ensures built { Builds S.Stable store.old store.new 4 plan.old plan.new result }
 {
     let _node = add_linked(store, plan, link.file.ino, now)?;
     let _slot = add_new_slot(store, plan, &entry_of(link), longer.fresh)?;

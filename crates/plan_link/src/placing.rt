@@ -1,15 +1,11 @@
 // The plan of a LINK of a free name, by where its entry comes.
 
-ghost use Rattle.std.specs.Prelude.{◌≡◌, ◌<◌, ◌≤◌, IfOk, OnErr, IsErrOf};
+ghost use Rattle.std.specs.Prelude.{◌<◌, IfOk};
 ghost use Rattle.files_model.specs.declared.call.Call.TheVariants.{Link};
-ghost use Rattle.plan_file.specs.declared.fault.PlanFault.TheVariants as fault;
 ghost use Rattle.plan_link.specs.Judging.{LinksAtSpot, LinksPastSlots};
-ghost use Rattle.plan_name.specs.Creating.{CanBePut};
 ghost use Rattle.plan_name.specs.Creations.{FitsSlot, SpotWithin};
 ghost use Rattle.plan_name.specs.Freeing.{IsDoneReply};
-ghost use Rattle.plan_name.specs.Planned.{IsPlannedCall, TakesFrom};
-ghost use Rattle.stable.specs.Counts.{Rose};
-ghost use Rattle.stable.specs.Looked.{Looked};
+ghost use Rattle.plan_name.specs.Planned.{IsPlannedCall, HasShape, TakesOnly};
 ghost use Rattle.v7_map.specs.Frame.{frame};
 ghost use Rattle.v7_map.specs.Image.{inode_sector};
 ghost use Rattle.v7_map.specs.Weak.{IsStrong};
@@ -44,11 +40,7 @@ pub(crate) fn plan_in_place<S: Stable>(
     requires within { (inode_sector file.ino < S.sector_count store.old) × SpotWithin (S.sector_count store.old) spot.now }
     requires named { FitsSlot name.now }
     ensures planned { S.tells → IsStrong (frame (S.image store.old)) → AreSetsOf (S.image store.old) sets.now.blocks sets.now.inodes → IsFile (S.image store.old) file ends.now.node → IsFile (S.image store.old) spot.now.directory ends.now.directory → LinksAtSpot (S.image store.old) file spot.now.directory name.now spot.now → IfOk result (λ r. IsPlannedCall (S.image store.old) (Link file spot.now.directory name.now, cred.now) now sets.now r) }
-    ensures fits { IfOk result (λ r. CanBePut (S.sector_count store.old) 3 r.plan.puts) }
-    ensures form { IfOk result (λ r. IsDoneReply r.reply) }
-    ensures room { IfOk result (λ r. r.plan.room ≤ 3) }
-    ensures cause { IsErrOf result fault.Failed → Rose (S.faults store.old) (S.faults store.new) }
-    ensures looked { Looked S.Stable store.old store.new }
+    ensures shape { HasShape S.Stable store.old store.new 3 IsDoneReply result }
 {
     let attr = attributes_of(spot.directory.ino, &ends.directory.inode);
     match judge_entry(&attr, ends.node.inode.nlink, false, &sets.blocks, cred) {
@@ -90,13 +82,8 @@ pub(crate) fn plan_at_end<S: Stable>(
     requires within { (inode_sector file.ino < S.sector_count store.old) × (inode_sector dir.ino < S.sector_count store.old) }
     requires named { FitsSlot name.now }
     ensures planned { S.tells → IsStrong (frame (S.image store.old)) → AreSetsOf (S.image store.old) sets.old.blocks sets.old.inodes → IsFile (S.image store.old) file ends.now.node → IsFile (S.image store.old) dir ends.now.directory → LinksPastSlots (S.image store.old) file dir name.now → IfOk result (λ r. IsPlannedCall (S.image store.old) (Link file dir name.now, cred.now) now sets.new r) }
-    ensures fits { IfOk result (λ r. CanBePut (S.sector_count store.old) 4 r.plan.puts) }
-    ensures form { IfOk result (λ r. IsDoneReply r.reply) }
-    ensures room { IfOk result (λ r. r.plan.room ≤ 4) }
-    ensures takes { TakesFrom sets.old sets.new }
-    ensures kept { OnErr result (sets.new ≡ sets.old) }
-    ensures cause { IsErrOf result fault.Failed → Rose (S.faults store.old) (S.faults store.new) }
-    ensures looked { Looked S.Stable store.old store.new }
+    ensures shape { HasShape S.Stable store.old store.new 4 IsDoneReply result }
+    ensures takes { TakesOnly sets.old sets.new result }
 {
     let directory = &ends.directory.inode;
     let attr = attributes_of(dir.ino, directory);

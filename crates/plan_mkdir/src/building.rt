@@ -1,14 +1,12 @@
 // The puts of a new directory.
 
-ghost use Rattle.std.specs.Prelude.{◌≡◌, ◌<◌, ◌≤◌, ℕ, List, [], ◌∷◌, OnOk};
+ghost use Rattle.std.specs.Prelude.{◌≡◌, ◌≤◌, ℕ, List, [], ◌∷◌, OnOk};
 ghost use Rattle.files_model.specs.Files.{Node};
 ghost use Rattle.files_model.specs.declared.attributes.Sattr.{Sattr};
 ghost use Rattle.files_model.specs.declared.call.Call.TheVariants.{Mkdir};
 ghost use Rattle.files_model.specs.declared.credential.Cred.{Cred};
 ghost use Rattle.plan_mkdir.specs.Making.{NewWithin, SpotWithin, Makes, HasParts, IsInside, IsAtEnd};
-ghost use Rattle.plan_name.specs.Creating.{IsPlannedMaking, MapWithin, CanBePut};
-ghost use Rattle.stable.specs.Counts.{HasCause};
-ghost use Rattle.stable.specs.Looked.{Looked};
+ghost use Rattle.plan_name.specs.Creating.{IsPlannedMaking, MapWithin, Builds};
 ghost use Rattle.v7_layout.specs.Written.{AddressesFit};
 ghost use Rattle.v7_map.specs.Frame.{Place, frame};
 ghost use Rattle.v7_map.specs.Weak.{IsStrong};
@@ -36,10 +34,7 @@ pub(crate) fn add_in_place<S: Stable>(
     requires within { NewWithin (S.sector_count store.old) new.now × SpotWithin (S.sector_count store.old) spot.now }
     requires fits { AddressesFit inode.now }
     ensures planned { S.tells → IsStrong (frame (S.image store.old)) → (name : List ℕ) (wanted : Sattr) (cred : Cred) (d : Node) → Makes (S.image store.old) spot.now new.now name wanted cred now d → HasParts (S.image store.old) spot.now new.now name wanted cred now inode.now slot.now → IsInside (S.image store.old) spot.now d → OnOk result (IsPlannedMaking (S.image store.old) (Mkdir spot.now.directory name wanted, cred) now new.now.ino (new.now.block ∷ []) plan.new.puts) }
-    ensures fits { OnOk result (CanBePut (S.sector_count store.old) 4 plan.new.puts) }
-    ensures room { OnOk result (plan.new.room ≡ plan.old.room) }
-    ensures cause { HasCause (S.faults store.old) (S.faults store.new) result }
-    ensures looked { Looked S.Stable store.old store.new }
+    ensures built { Builds S.Stable store.old store.new 4 plan.old plan.new result }
 {
     let dots = dots_sector(new.ino as u16, spot.directory.ino as u16);
     plan.add(new.block, &dots);
@@ -66,10 +61,7 @@ pub(crate) fn add_at_end<S: Stable>(
     requires longer { MapWithin (S.sector_count store.old) longer.now × BlocksFit longer.now.blocks }
     requires fits { AddressesFit inode.now }
     ensures planned { S.tells → IsStrong (frame (S.image store.old)) → (name : List ℕ) (wanted : Sattr) (cred : Cred) (d : Node) (target : Place → ℕ) (taken : List ℕ) → Makes (S.image store.old) spot.now new.now name wanted cred now d → HasParts (S.image store.old) spot.now new.now name wanted cred now inode.now slot.now → IsAtEnd (S.image store.old) spot.now new.now.block longer.now d target taken → OnOk result (IsPlannedMaking (S.image store.old) (Mkdir spot.now.directory name wanted, cred) now new.now.ino (new.now.block ∷ taken) plan.new.puts) }
-    ensures fits { OnOk result (CanBePut (S.sector_count store.old) 5 plan.new.puts) }
-    ensures room { OnOk result (plan.new.room ≡ plan.old.room) }
-    ensures cause { HasCause (S.faults store.old) (S.faults store.new) result }
-    ensures looked { Looked S.Stable store.old store.new }
+    ensures built { Builds S.Stable store.old store.new 5 plan.old plan.new result }
 {
     let dots = dots_sector(new.ino as u16, spot.directory.ino as u16);
     plan.add(new.block, &dots);

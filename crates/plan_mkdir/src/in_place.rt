@@ -1,18 +1,14 @@
 // The plan of a MKDIR of a free name whose parent has an empty slot.
 
-ghost use Rattle.std.specs.Prelude.{◌≡◌, ◌<◌, ◌≤◌, false, IfOk, OnErr, IsErrOf};
+ghost use Rattle.std.specs.Prelude.{◌≡◌, ◌<◌, ◌≤◌, false, IfOk};
 ghost use Rattle.files_model.specs.Files.{Node};
 ghost use Rattle.files_model.specs.Names.{place_for};
 ghost use Rattle.files_model.specs.declared.call.Call.TheVariants.{Mkdir};
-ghost use Rattle.plan_file.specs.declared.fault.PlanFault.TheVariants as fault;
 ghost use Rattle.plan_mkdir.specs.Free.{IsFreeName};
 ghost use Rattle.plan_name.specs.Created.{IsHandleReply};
-ghost use Rattle.plan_name.specs.Creating.{CanBePut};
 ghost use Rattle.plan_name.specs.Creations.{FitsSlot};
 ghost use Rattle.plan_name.specs.Judging.{IsTold};
-ghost use Rattle.plan_name.specs.Planned.{IsPlannedCall, TakesFrom};
-ghost use Rattle.stable.specs.Counts.{Rose};
-ghost use Rattle.stable.specs.Looked.{Looked};
+ghost use Rattle.plan_name.specs.Planned.{IsPlannedCall, HasShape, TakesOnly};
 ghost use Rattle.v7_map.specs.View.{view};
 ghost use Rattle.v7_strokes.specs.Entries.{entry_sector};
 
@@ -43,13 +39,8 @@ pub fn plan_in_place<S: Stable>(
     requires within { (spot.now.sector < S.sector_count store.old) × (2 ≤ spot.now.sector) }
     requires named { FitsSlot name.now }
     ensures planned { S.tells → (d : Node) → IsTold (S.image store.old) spot.now.directory.ino d parent.now false sets.old.blocks sets.old.inodes → IsFreeName (view (S.image store.old)) spot.now.directory name.now d → spot.now.index ≡ place_for d.slots → spot.now.sector ≡ entry_sector (S.image store.old) spot.now.directory.ino spot.now.index → IfOk result (λ r. IsPlannedCall (S.image store.old) (Mkdir spot.now.directory name.now wanted.now, cred.now) now sets.new r) }
-    ensures fits { IfOk result (λ r. CanBePut (S.sector_count store.old) 4 r.plan.puts) }
-    ensures room { IfOk result (λ r. r.plan.room ≤ 4) }
-    ensures form { IfOk result (λ r. IsHandleReply r.reply) }
-    ensures takes { TakesFrom sets.old sets.new }
-    ensures kept { OnErr result (sets.new ≡ sets.old) }
-    ensures cause { IsErrOf result fault.Failed → Rose (S.faults store.old) (S.faults store.new) }
-    ensures looked { Looked S.Stable store.old store.new }
+    ensures shape { HasShape S.Stable store.old store.new 4 IsHandleReply result }
+    ensures takes { TakesOnly sets.old sets.new result }
 {
     let number = match judge_new(parent, false, sets, cred) {
         Ok(number) => number,

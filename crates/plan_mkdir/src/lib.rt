@@ -16,3 +16,6 @@ pub use directories::{NewDirectory, dots_sector, new_directory};
 pub use in_place::plan_in_place;
 pub use judging::judge_new;
 pub use planning::plan_mkdir;
+
+#[cfg(test)]
+mod tests;

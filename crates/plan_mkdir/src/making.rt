@@ -1,6 +1,6 @@
 // A new directory as its call makes it: its inode, its puts, and what is answered.
 
-ghost use Rattle.std.specs.Prelude.{◌≡◌, ◌<◌, ◌≤◌, ◌+◌, ◌-◌, ◌^◌, ℕ, List, [], ◌∷◌, true, IfOk, OnOk};
+ghost use Rattle.std.specs.Prelude.{◌≡◌, ◌<◌, ◌≤◌, ◌+◌, ◌-◌, ◌^◌, ℕ, List, [], ◌∷◌, true, IfOk};
 ghost use Rattle.files_model.specs.Files.{Node};
 ghost use Rattle.files_model.specs.NameRows.{new_directory};
 ghost use Rattle.files_model.specs.declared.call.Call.TheVariants.{Mkdir};
@@ -8,7 +8,7 @@ ghost use Rattle.files_model.specs.declared.reply.Reply.TheVariants as reply;
 ghost use Rattle.plan_mkdir.specs.Inodes.{IsDirectoryInode};
 ghost use Rattle.plan_mkdir.specs.Making.{NewWithin, SpotWithin, Makes, IsInside, IsAtEnd};
 ghost use Rattle.plan_name.specs.Created.{IsHandleReply};
-ghost use Rattle.plan_name.specs.Creating.{IsPlannedMaking, MapWithin, CanBePut, made_answer};
+ghost use Rattle.plan_name.specs.Creating.{IsPlannedMaking, MapWithin, made_answer, Builds};
 ghost use Rattle.plan_name.specs.Creations.{FitsSlot};
 ghost use Rattle.stable.specs.Counts.{HasCause};
 ghost use Rattle.stable.specs.Looked.{Looked};
@@ -77,10 +77,8 @@ pub(crate) fn make_in_place<S: Stable>(
     requires within { NewWithin (S.sector_count store.old) new.now × SpotWithin (S.sector_count store.old) spot.now }
     requires named { FitsSlot name.now }
     ensures planned { S.tells → IsStrong (frame (S.image store.old)) → (d : Node) → Makes (S.image store.old) spot.now new.now name.now wanted.now cred.now now d → IsInside (S.image store.old) spot.now d → IfOk result (λ r. IsPlannedMaking (S.image store.old) (Mkdir spot.now.directory name.now wanted.now, cred.now) now new.now.ino (new.now.block ∷ []) plan.new.puts × (r ≡ made_answer (S.image store.old) new.now.ino (new_directory wanted.now cred.now new.now.ino spot.now.directory.ino now))) }
-    ensures fits { IfOk result (λ r. CanBePut (S.sector_count store.old) 4 plan.new.puts × IsHandleReply r) }
-    ensures room { OnOk result (plan.new.room ≡ plan.old.room) }
-    ensures cause { HasCause (S.faults store.old) (S.faults store.new) result }
-    ensures looked { Looked S.Stable store.old store.new }
+    ensures built { Builds S.Stable store.old store.new 4 plan.old plan.new result }
+    ensures form { IfOk result IsHandleReply }
 {
     let inode = next_inode(store, plan, new, wanted, cred, now)?;
     let slot = slot_of(new.ino as u16, name.bytes());
@@ -106,10 +104,8 @@ pub(crate) fn make_at_end<S: Stable>(
     requires longer { MapWithin (S.sector_count store.old) longer.now × BlocksFit longer.now.blocks }
     requires named { FitsSlot name.now }
     ensures planned { S.tells → IsStrong (frame (S.image store.old)) → (d : Node) (target : Place → ℕ) (taken : List ℕ) → Makes (S.image store.old) spot.now new.now name.now wanted.now cred.now now d → IsAtEnd (S.image store.old) spot.now new.now.block longer.now d target taken → IfOk result (λ r. IsPlannedMaking (S.image store.old) (Mkdir spot.now.directory name.now wanted.now, cred.now) now new.now.ino (new.now.block ∷ taken) plan.new.puts × (r ≡ made_answer (S.image store.old) new.now.ino (new_directory wanted.now cred.now new.now.ino spot.now.directory.ino now))) }
-    ensures fits { IfOk result (λ r. CanBePut (S.sector_count store.old) 5 plan.new.puts × IsHandleReply r) }
-    ensures room { OnOk result (plan.new.room ≡ plan.old.room) }
-    ensures cause { HasCause (S.faults store.old) (S.faults store.new) result }
-    ensures looked { Looked S.Stable store.old store.new }
+    ensures built { Builds S.Stable store.old store.new 5 plan.old plan.new result }
+    ensures form { IfOk result IsHandleReply }
 {
     let inode = next_inode(store, plan, new, wanted, cred, now)?;
     let slot = slot_of(new.ino as u16, name.bytes());

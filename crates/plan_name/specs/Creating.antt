@@ -1,5 +1,5 @@
 -- What a builder is told of a creation, and what its plan comes to.
-use Rattle.std.specs.Prelude.{◌≡◌, ◌<◌, ◌≤◌, ℕ, ◌+◌, ◌-◌, ◌^◌, ◌/◌, ◌==◌, Bool, false, List, [], ◌∷◌, length, get_or, set, Option, Some, None, IfSome}
+use Rattle.std.specs.Prelude.{◌≡◌, ◌<◌, ◌≤◌, ℕ, ◌+◌, ◌-◌, ◌^◌, ◌/◌, ◌==◌, Bool, false, List, [], ◌∷◌, length, get_or, set, Option, Some, None, IfSome, Result, OnOk}
 use Rattle.std.specs.Option.{unwrap_or}
 use Rattle.std.specs.FinMap.{get}
 use Rattle.files_model.specs.declared.attributes.Sattr.{Sattr}
@@ -14,8 +14,11 @@ use Rattle.files_model.specs.Torn.{Asked}
 use Rattle.name_plans.specs.Lengthening.{MapPuts}
 use Rattle.name_plans.specs.Making.{IsMaking}
 use Rattle.name_plans.specs.Taken.{taken, AreNewBlocks, HasNoBlocks}
-use Rattle.stable.specs.Puts.{put_all, AllStand, AllPastSuperBlock}
+use Rattle.stable.specs.Counts.{HasCause}
+use Rattle.stable.specs.Looked.{Looked}
+use Rattle.stable.specs.Puts.{put_all, AllStand, AllPastSuperBlock, Reserved}
 use Rattle.stable.specs.Store.{Image}
+use Rattle.stable.specs.declared.store.Stable.{Ghosts}
 use Rattle.v7_layout.specs.declared.inode.Inode.{Inode}
 use Rattle.v7_layout.specs.declared.slot.Slot.{Slot}
 use Rattle.v7_map.specs.Frame.{Place, Body, Single, frame}
@@ -93,6 +96,13 @@ pub record CanBePut (sectors most : ℕ) (puts : List (ℕ × List ℕ)) : Type 
   pub few : length puts ≤ most
   pub stand : AllStand sectors puts
   pub past : AllPastSuperBlock puts
+
+-- What each builder says of its run: it makes of the plan that was begun one of at most so many puts, with the same room, and only looks at the store, which failed where the builder did. `s` is what the store's type tells.
+pub record Builds {S T E : Type 0} (s : Ghosts S) (old new : S) (most : ℕ) (begun built : Reserved) (result : Result T E) : Type 0 where
+  pub fits : OnOk result (CanBePut (s.sector_count old) most built.puts)
+  pub room : OnOk result (built.room ≡ begun.room)
+  pub cause : HasCause (s.faults old) (s.faults new) result
+  pub looked : Looked s old new
 
 -- The slot comes at the directory's end, in this sector, where the directory may get longer, and its blocks are to stand at these places, of which these are new.
 pub record FitsAtEnd (image : Image) (asked : Asked) (now p i index sector : ℕ) (longer : Longer) (name : List ℕ) (wanted : Sattr) (cred : Cred) (d : Node) (target : Place → ℕ) (new : List ℕ) : Type 0 where

@@ -1,13 +1,9 @@
 // The plan of a CREATE.
 
-ghost use Rattle.std.specs.Prelude.{◌≡◌, ◌≤◌, IfOk, OnErr, IsErrOf};
+ghost use Rattle.std.specs.Prelude.{IfOk};
 ghost use Rattle.files_model.specs.declared.call.Call.TheVariants.{Create};
-ghost use Rattle.plan_file.specs.declared.fault.PlanFault.TheVariants as fault;
 ghost use Rattle.plan_name.specs.Created.{IsHandleReply};
-ghost use Rattle.plan_name.specs.Creating.{CanBePut};
-ghost use Rattle.plan_name.specs.Planned.{IsPlannedCall, TakesFrom};
-ghost use Rattle.stable.specs.Counts.{Rose};
-ghost use Rattle.stable.specs.Looked.{Looked};
+ghost use Rattle.plan_name.specs.Planned.{IsPlannedCall, HasShape, TakesOnly};
 ghost use Rattle.v7_map.specs.Frame.{frame};
 ghost use Rattle.v7_map.specs.Weak.{IsStrong};
 ghost use Rattle.v7_sets.specs.Sets.{AreSetsOf};
@@ -39,13 +35,8 @@ pub fn plan_create<S: Stable>(
     now: u32,
 ) -> Result<Planned, PlanFault>
     ensures planned { S.tells → IsStrong (frame (S.image store.old)) → AreSetsOf (S.image store.old) sets.old.blocks sets.old.inodes → IfOk result (λ r. IsPlannedCall (S.image store.old) (Create dir name.now wanted.now, cred.now) now sets.new r) }
-    ensures fits { IfOk result (λ r. CanBePut (S.sector_count store.old) 4 r.plan.puts) }
-    ensures form { IfOk result (λ r. IsHandleReply r.reply) }
-    ensures room { IfOk result (λ r. r.plan.room ≤ 4) }
-    ensures takes { TakesFrom sets.old sets.new }
-    ensures kept { OnErr result (sets.new ≡ sets.old) }
-    ensures cause { IsErrOf result fault.Failed → Rose (S.faults store.old) (S.faults store.new) }
-    ensures looked { Looked S.Stable store.old store.new }
+    ensures shape { HasShape S.Stable store.old store.new 4 IsHandleReply result }
+    ensures takes { TakesOnly sets.old sets.new result }
 {
     let found = find(store, dir)?;
     let Some(found) = found else {

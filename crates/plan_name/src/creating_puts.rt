@@ -15,7 +15,7 @@ ghost use Rattle.v7_strokes.specs.Entries.{entry_sector};
 ghost use Rattle.v7_strokes.specs.Inodes.{BlocksFit};
 ghost use Rattle.v7_strokes.specs.Over.{slot_from};
 ghost use Rattle.v7_strokes.specs.Slots.{PutsSlot};
-ghost use Rattle.plan_name.specs.Creating.{Makes, IsPlannedMaking, StandWithin, MapWithin, LaysOut, CanBePut, map_puts};
+ghost use Rattle.plan_name.specs.Creating.{Makes, IsPlannedMaking, StandWithin, MapWithin, LaysOut, map_puts, Builds};
 
 use stable::{Failed, Plan, Stable};
 use v7_layout::{Inode, Slot};
@@ -61,10 +61,7 @@ pub fn add_in_place<S: Stable>(
     requires within { StandWithin (S.sector_count store.old) ino entry.now }
     requires fits { AddressesFit inode.now }
     ensures planned { S.tells → IsStrong (frame (S.image store.old)) → (asked : Asked) (name : List ℕ) (d m : Node) → Makes (S.image store.old) asked now ino inode.now entry.now name d m → entry.now.index < length d.slots → entry.now.sector ≡ entry_sector (S.image store.old) entry.now.directory entry.now.index → OnOk result (IsPlannedMaking (S.image store.old) asked now ino [] plan.new.puts) }
-    ensures fits { OnOk result (CanBePut (S.sector_count store.old) 3 plan.new.puts) }
-    ensures room { OnOk result (plan.new.room ≡ plan.old.room) }
-    ensures cause { HasCause (S.faults store.old) (S.faults store.new) result }
-    ensures looked { Looked S.Stable store.old store.new }
+    ensures built { Builds S.Stable store.old store.new 3 plan.old plan.new result }
 {
     let _inode = add_inode(store, plan, ino, inode)?;
     let _slot = add_slot(store, plan, entry.sector, entry.index, &entry.slot)?;
@@ -137,10 +134,7 @@ pub fn add_at_end<S: Stable>(
     requires within { StandWithin (S.sector_count store.old) ino entry.now × MapWithin (S.sector_count store.old) longer.now }
     requires fits { AddressesFit inode.now × BlocksFit longer.now.blocks }
     ensures planned { S.tells → IsStrong (frame (S.image store.old)) → (asked : Asked) (name : List ℕ) (d m : Node) (target : Place → ℕ) (new : List ℕ) → Makes (S.image store.old) asked now ino inode.now entry.now name d m → entry.now.index ≡ length d.slots → d.size + 16 ≤ size_limit → LaysOut (S.image store.old) entry.now longer.now target new → OnOk result (IsPlannedMaking (S.image store.old) asked now ino new plan.new.puts) }
-    ensures fits { OnOk result (CanBePut (S.sector_count store.old) 4 plan.new.puts) }
-    ensures room { OnOk result (plan.new.room ≡ plan.old.room) }
-    ensures cause { HasCause (S.faults store.old) (S.faults store.new) result }
-    ensures looked { Looked S.Stable store.old store.new }
+    ensures built { Builds S.Stable store.old store.new 4 plan.old plan.new result }
 {
     let _inode = add_inode(store, plan, ino, inode)?;
     let _slot = add_new_slot(store, plan, entry, longer.fresh)?;

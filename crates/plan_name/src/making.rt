@@ -1,12 +1,12 @@
 // A new file in an empty slot of its directory.
 
-ghost use Rattle.std.specs.Prelude.{◌≡◌, ◌≢◌, ◌<◌, ◌≤◌, ◌+◌, ◌-◌, ◌^◌, ℕ, List, [], length, true, IfOk, OnOk, All};
+ghost use Rattle.std.specs.Prelude.{◌≡◌, ◌≢◌, ◌<◌, ◌≤◌, ◌+◌, ◌-◌, ◌^◌, [], length, true, IfOk, All};
 ghost use Rattle.files_model.specs.Files.{Node};
 ghost use Rattle.files_model.specs.Names.{new_file};
 ghost use Rattle.files_model.specs.Torn.{Asked};
 ghost use Rattle.files_model.specs.declared.reply.Reply.TheVariants as reply;
 ghost use Rattle.plan_name.specs.Created.{IsHandleReply};
-ghost use Rattle.plan_name.specs.Creating.{FitsIn, IsPlannedMaking, CanBePut, made_answer};
+ghost use Rattle.plan_name.specs.Creating.{FitsIn, IsPlannedMaking, made_answer, Builds};
 ghost use Rattle.stable.specs.Counts.{HasCause};
 ghost use Rattle.stable.specs.Looked.{Looked};
 ghost use Rattle.v7_layout.specs.Written.{AddressesFit};
@@ -83,10 +83,8 @@ pub fn make_in_place<S: Stable>(
     requires within { (inode_sector ino < S.sector_count store.old) × (inode_sector spot.now.directory.ino < S.sector_count store.old) × (spot.now.sector < S.sector_count store.old) × (2 ≤ spot.now.sector) }
     requires named { (length name.now ≤ 14) × All (λ byte. byte ≢ 0) name.now }
     ensures planned { S.tells → IsStrong (frame (S.image store.old)) → (asked : Asked) (d : Node) → FitsIn (S.image store.old) asked now spot.now.directory.ino ino spot.now.index spot.now.sector name.now wanted.now cred.now d → IfOk result (λ r. IsPlannedMaking (S.image store.old) asked now ino [] plan.new.puts × (r ≡ made_answer (S.image store.old) ino (new_file wanted.now cred.now now))) }
-    ensures fits { IfOk result (λ r. CanBePut (S.sector_count store.old) 3 plan.new.puts × IsHandleReply r) }
-    ensures room { OnOk result (plan.new.room ≡ plan.old.room) }
-    ensures cause { HasCause (S.faults store.old) (S.faults store.new) result }
-    ensures looked { Looked S.Stable store.old store.new }
+    ensures built { Builds S.Stable store.old store.new 3 plan.old plan.new result }
+    ensures form { IfOk result IsHandleReply }
 {
     let inode = next_inode(store, plan, ino, wanted, cred, now)?;
     let entry = Entry {

@@ -1,13 +1,11 @@
 // A new file at the end of its directory.
 
-ghost use Rattle.std.specs.Prelude.{◌≡◌, ◌≢◌, ◌<◌, ◌≤◌, ℕ, List, [], length, IfOk, OnOk, All};
+ghost use Rattle.std.specs.Prelude.{◌≡◌, ◌≢◌, ◌<◌, ◌≤◌, ℕ, List, [], length, IfOk, All};
 ghost use Rattle.files_model.specs.Files.{Node};
 ghost use Rattle.files_model.specs.Names.{new_file};
 ghost use Rattle.files_model.specs.Torn.{Asked};
 ghost use Rattle.plan_name.specs.Created.{IsHandleReply};
-ghost use Rattle.plan_name.specs.Creating.{FitsAtEnd, IsPlannedMaking, MapWithin, CanBePut, made_answer};
-ghost use Rattle.stable.specs.Counts.{HasCause};
-ghost use Rattle.stable.specs.Looked.{Looked};
+ghost use Rattle.plan_name.specs.Creating.{FitsAtEnd, IsPlannedMaking, MapWithin, made_answer, Builds};
 ghost use Rattle.v7_map.specs.Frame.{Place, frame};
 ghost use Rattle.v7_map.specs.Image.{inode_sector};
 ghost use Rattle.v7_map.specs.Weak.{IsStrong};
@@ -38,10 +36,8 @@ pub fn make_at_end<S: Stable>(
     requires longer { MapWithin (S.sector_count store.old) longer.now × BlocksFit longer.now.blocks }
     requires named { (length name.now ≤ 14) × All (λ byte. byte ≢ 0) name.now }
     ensures planned { S.tells → IsStrong (frame (S.image store.old)) → (asked : Asked) (d : Node) (target : Place → ℕ) (new : List ℕ) → FitsAtEnd (S.image store.old) asked now spot.now.directory.ino ino spot.now.index spot.now.sector longer.now name.now wanted.now cred.now d target new → IfOk result (λ r. IsPlannedMaking (S.image store.old) asked now ino new plan.new.puts × (r ≡ made_answer (S.image store.old) ino (new_file wanted.now cred.now now))) }
-    ensures fits { IfOk result (λ r. CanBePut (S.sector_count store.old) 4 plan.new.puts × IsHandleReply r) }
-    ensures room { OnOk result (plan.new.room ≡ plan.old.room) }
-    ensures cause { HasCause (S.faults store.old) (S.faults store.new) result }
-    ensures looked { Looked S.Stable store.old store.new }
+    ensures built { Builds S.Stable store.old store.new 4 plan.old plan.new result }
+    ensures form { IfOk result IsHandleReply }
 {
     let inode = next_inode(store, plan, ino, wanted, cred, now)?;
     let entry = Entry {

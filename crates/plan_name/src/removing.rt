@@ -1,15 +1,13 @@
 // The plan of a REMOVE.
 
-ghost use Rattle.std.specs.Prelude.{◌≡◌, ◌≤◌, ℕ, List, nat_lt, ◌&&◌, Some, None, if◌then◌else◌, IfOk, IsErrOf};
+ghost use Rattle.std.specs.Prelude.{◌≡◌, ℕ, List, nat_lt, ◌&&◌, Some, None, if◌then◌else◌, IfOk};
 ghost use Rattle.files_model.specs.declared.attributes.FileId.{FileId};
 ghost use Rattle.files_model.specs.declared.credential.Cred.{Cred};
 ghost use Rattle.files_model.specs.declared.call.Call.TheVariants.{Remove};
-ghost use Rattle.plan_file.specs.declared.fault.PlanFault.TheVariants as fault;
-ghost use Rattle.plan_name.specs.Creating.{CanBePut};
-ghost use Rattle.plan_name.specs.Planned.{IsPlannedCall};
+ghost use Rattle.plan_name.specs.Planned.{IsPlannedCall, HasShape};
 ghost use Rattle.plan_name.specs.Freeing.{AreBlocksOf, Frees, IsDoneReply};
 ghost use Rattle.plan_name.specs.Removals.{IsTaken, TakenWithin};
-ghost use Rattle.stable.specs.Counts.{HasCause, Rose};
+ghost use Rattle.stable.specs.Counts.{HasCause};
 ghost use Rattle.stable.specs.Looked.{Looked};
 ghost use Rattle.v7_map.specs.Frame.{frame};
 ghost use Rattle.v7_map.specs.Weak.{IsStrong};
@@ -79,11 +77,7 @@ fn put_removal<S: Stable>(
 ) -> Result<Planned, PlanFault>
     requires within { TakenWithin (S.sector_count store.old) taking.now }
     ensures planned { S.tells → IsStrong (frame (S.image store.old)) → (dir : FileId) (name : List ℕ) (cred : Cred) → IsTaken (S.image store.old) dir name cred taking.now inode.now → (sets : Sets) → AreSetsOf (S.image store.old) sets.blocks sets.inodes → IfOk result (λ r. IsPlannedCall (S.image store.old) (Remove dir name, cred) now sets r) }
-    ensures fits { IfOk result (λ r. CanBePut (S.sector_count store.old) 3 r.plan.puts) }
-    ensures room { IfOk result (λ r. r.plan.room ≤ 3) }
-    ensures form { IfOk result (λ r. IsDoneReply r.reply) }
-    ensures cause { IsErrOf result fault.Failed → Rose (S.faults store.old) (S.faults store.new) }
-    ensures looked { Looked S.Stable store.old store.new }
+    ensures shape { HasShape S.Stable store.old store.new 3 IsDoneReply result }
 {
     let mut plan = Plan::new(alloc, 3)?;
     add_removal(store, &mut plan, taking, now)?;
@@ -111,11 +105,7 @@ pub fn plan_remove<S: Stable>(
     now: u32,
 ) -> Result<Planned, PlanFault>
     ensures planned { S.tells → IsStrong (frame (S.image store.old)) → (sets : Sets) → AreSetsOf (S.image store.old) sets.blocks sets.inodes → IfOk result (λ r. IsPlannedCall (S.image store.old) (Remove dir name.now, cred.now) now sets r) }
-    ensures fits { IfOk result (λ r. CanBePut (S.sector_count store.old) 3 r.plan.puts) }
-    ensures room { IfOk result (λ r. r.plan.room ≤ 3) }
-    ensures form { IfOk result (λ r. IsDoneReply r.reply) }
-    ensures cause { IsErrOf result fault.Failed → Rose (S.faults store.old) (S.faults store.new) }
-    ensures looked { Looked S.Stable store.old store.new }
+    ensures shape { HasShape S.Stable store.old store.new 3 IsDoneReply result }
 {
     let found = find(store, dir)?;
     let Some(found) = found else {

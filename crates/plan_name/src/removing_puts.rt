@@ -4,11 +4,9 @@ ghost use Rattle.std.specs.Prelude.{◌≡◌, ◌≤◌, ℕ, List, [], OnOk};
 ghost use Rattle.files_model.specs.Files.{Node};
 ghost use Rattle.files_model.specs.declared.attributes.FileId.{FileId};
 ghost use Rattle.files_model.specs.declared.credential.Cred.{Cred};
-ghost use Rattle.stable.specs.Counts.{HasCause};
-ghost use Rattle.stable.specs.Looked.{Looked};
 ghost use Rattle.v7_map.specs.Frame.{frame};
 ghost use Rattle.v7_map.specs.Weak.{IsStrong};
-ghost use Rattle.plan_name.specs.Creating.{CanBePut};
+ghost use Rattle.plan_name.specs.Creating.{Builds};
 ghost use Rattle.plan_name.specs.Removals.{Takes, IsPlannedRemoval, TakenWithin};
 
 use stable::{Failed, Plan, Stable};
@@ -36,10 +34,7 @@ pub fn add_removal<S: Stable>(
     requires room { 3 ≤ plan.old.room }
     requires within { TakenWithin (S.sector_count store.old) taking.now }
     ensures planned { S.tells → IsStrong (frame (S.image store.old)) → (dir : FileId) (name : List ℕ) (cred : Cred) (d n : Node) → Takes (S.image store.old) dir name cred d n taking.now → OnOk result (IsPlannedRemoval (S.image store.old) dir name cred now n taking.now plan.new.puts) }
-    ensures fits { OnOk result (CanBePut (S.sector_count store.old) 3 plan.new.puts) }
-    ensures room { OnOk result (plan.new.room ≡ plan.old.room) }
-    ensures cause { HasCause (S.faults store.old) (S.faults store.new) result }
-    ensures looked { Looked S.Stable store.old store.new }
+    ensures built { Builds S.Stable store.old store.new 3 plan.old plan.new result }
 {
     let _slot = add_slot(store, plan, taking.sector, taking.index, &empty_slot())?;
     if taking.directory < taking.node {

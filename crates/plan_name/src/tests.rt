@@ -3,7 +3,8 @@
 mod calls;
 
 use super::*;
-use files_model::{Attr, Cred, FileId, Gids, Kind, Name, Reply, Sattr, Stat};
+use files_model::{Attr, Kind, Name, Reply, Sattr, Stat};
+use small_volumes::{NOTHING, ROOT_ID, Small, user};
 use stable::{Failed, Plan, Stable};
 use std::alloc::Global;
 use std::test::Fail;
@@ -11,33 +12,11 @@ use store_mem::Memory;
 use v7_layout::Inode;
 use v7_read::inode_in;
 use v7_sets::Sets;
-use v7_strokes::{Blocks, slot_of, with_inode};
-use volume_mem::{FRESH, test_volume};
-
-const NOTHING: Sattr = Sattr {
-    mode: None,
-    uid: None,
-    gid: None,
-    size: None,
-    atime: None,
-    mtime: None,
-};
-
-// User and group 100.
-fn caller() -> Cred {
-    Cred {
-        uid: 100,
-        gid: 100,
-        gids: Gids::copy(&[]),
-    }
-}
+use v7_strokes::{Blocks, slot_of};
+use volume_mem::FRESH;
 
 fn volume(alloc: Global) -> Result<Memory, Fail> {
-    let mut sectors = test_volume(alloc, FRESH).map_err(|_| "memory")?;
-    // a store asks that its sectors can be numbered
-    sectors.truncate(64);
-    let store = Memory::new(alloc, sectors.as_slice()).map_err(|_| "memory")?;
-    Ok(store)
+    Ok(Small::new(alloc, FRESH)?.store)
 }
 
 // File 4 is made at second 2000, in slot `index` of the root.
@@ -45,7 +24,7 @@ fn make<S: Stable>(store: &mut S, plan: &mut Plan, index: u32) -> Result<(), Fai
     if store.sectors() < 64 || plan.room() < 4 || plan.puts().len() > 0 {
         return Err(Failed);
     }
-    let inode = new_file(&NOTHING, &caller(), 2000, 1);
+    let inode = new_file(&NOTHING, &user(100), 2000, 1);
     let entry = Entry {
         directory: 2,
         index,
@@ -95,12 +74,8 @@ fn plan_first(alloc: Global, store: &mut Memory, sets: &mut Sets) -> Result<Plan
     if store.sectors() < 64 {
         return Err("no volume".into());
     }
-    let root = FileId {
-        ino: 2,
-        generation: 1,
-    };
     let spot = Spot {
-        directory: root,
+        directory: ROOT_ID,
         index: 2,
         sector: 4,
     };
@@ -113,7 +88,7 @@ fn plan_first(alloc: Global, store: &mut Memory, sets: &mut Sets) -> Result<Plan
         &spot,
         &name,
         &NOTHING,
-        &caller(),
+        &user(100),
         2000,
     );
     Ok(planned.map_err(|_| "not planned")?)
@@ -143,12 +118,12 @@ fn a_name_that_is_there_gets_its_size_or_stays(rt: HostRuntime) -> Result<(), Fa
     let mut store = volume(alloc)?;
     for (size, puts, freed) in [(Some(0), 1, 2), (None, 0, 0)] {
         let wanted = Sattr { size, ..NOTHING };
-        let planned = plan_standing_name(alloc, &mut store, 3, &wanted, &caller(), 2000);
+        let planned = plan_standing_name(alloc, &mut store, 3, &wanted, &user(100), 2000);
         let planned = planned.map_err(|_| "not planned")?;
         assert!(rt; planned.plan.puts().len() == puts && planned.freed.blocks.len() == freed);
         assert!(rt; matches!(planned.reply, Reply::Handle { .. }));
     }
-    let root = plan_standing_name(alloc, &mut store, 2, &NOTHING, &caller(), 2000);
+    let root = plan_standing_name(alloc, &mut store, 2, &NOTHING, &user(100), 2000);
     let root = root.map_err(|_| "not planned")?;
     assert!(rt; matches!(root.reply, Reply::Refused(Stat::Exist)));
     Ok(())
@@ -198,26 +173,26 @@ fn a_full_sector_takes_a_free_block(rt: HostRuntime) -> Result<(), Fail> {
     let mut sets = Sets::new(rt.alloc(), 64, 17).map_err(|_| "memory")?;
     let full = directory(512);
     assert_eq!(rt;
-        judge_new(&full, true, &sets, &NOTHING, &caller()),
+        judge_new(&full, true, &sets, &NOTHING, &user(100)),
         Err(Stat::Nospc)
     );
     sets.inodes.give(5);
     sets.inodes.give(4);
     assert_eq!(rt;
-        judge_new(&full, true, &sets, &NOTHING, &caller()),
+        judge_new(&full, true, &sets, &NOTHING, &user(100)),
         Err(Stat::Nospc)
     );
-    assert_eq!(rt; judge_new(&full, false, &sets, &NOTHING, &caller()), Ok(4));
+    assert_eq!(rt; judge_new(&full, false, &sets, &NOTHING, &user(100)), Ok(4));
     sets.blocks.give(9);
-    assert_eq!(rt; judge_new(&full, true, &sets, &NOTHING, &caller()), Ok(4));
+    assert_eq!(rt; judge_new(&full, true, &sets, &NOTHING, &user(100)), Ok(4));
     let eleventh = directory(5120);
     assert_eq!(rt;
-        judge_new(&eleventh, true, &sets, &NOTHING, &caller()),
+        judge_new(&eleventh, true, &sets, &NOTHING, &user(100)),
         Err(Stat::Nospc)
     );
     let longest = directory(70_656);
     assert_eq!(rt;
-        judge_new(&longest, true, &sets, &NOTHING, &caller()),
+        judge_new(&longest, true, &sets, &NOTHING, &user(100)),
         Err(Stat::Fbig)
     );
     Ok(())
@@ -225,18 +200,10 @@ fn a_full_sector_takes_a_free_block(rt: HostRuntime) -> Result<(), Fail> {
 
 // The volume whose root has 32 slots, all of its sector 4, and the root's inode.
 fn full_volume(alloc: Global) -> Result<(Memory, Inode), Fail> {
-    let mut sectors = test_volume(alloc, FRESH).map_err(|_| "memory")?;
-    sectors.truncate(64);
-    if sectors.len() < 64 {
-        return Err("no volume".into());
-    }
-    let root = Inode {
-        size: 512,
-        ..inode_in(&sectors[2], 2)
-    };
-    sectors[2] = with_inode(&sectors[2], 2, &root);
-    let store = Memory::new(alloc, sectors.as_slice()).map_err(|_| "memory")?;
-    Ok((store, root))
+    let mut small = Small::new(alloc, FRESH)?;
+    small.fill(32, 32)?;
+    let root = small.inode(2);
+    Ok((small.store, root))
 }
 
 #[test]
@@ -278,18 +245,10 @@ fn plan_last(
     if store.sectors() < 64 {
         return Err("no volume".into());
     }
-    let root = FileId {
-        ino: 2,
-        generation: 1,
-    };
-    let cred = Cred {
-        uid: 0,
-        gid: 0,
-        gids: Gids::copy(&[]),
-    };
+    let cred = user(0);
     let name = Name::copy(b"new");
     let planned = plan_new_at_end(
-        alloc, store, sets, root, inode, &name, &NOTHING, &cred, 2000,
+        alloc, store, sets, ROOT_ID, inode, &name, &NOTHING, &cred, 2000,
     );
     Ok(planned.map_err(|_| "not planned")?)
 }

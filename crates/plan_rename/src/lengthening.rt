@@ -1,14 +1,10 @@
 // The plan of a RENAME that makes another directory longer.
 
-ghost use Rattle.std.specs.Prelude.{◌≡◌, ◌≤◌, IfOk, OnErr, IsErrOf};
-ghost use Rattle.plan_file.specs.declared.fault.PlanFault.TheVariants as fault;
-ghost use Rattle.plan_name.specs.Creating.{CanBePut};
+ghost use Rattle.std.specs.Prelude.{IfOk};
 ghost use Rattle.plan_name.specs.Freeing.{IsDoneReply};
-ghost use Rattle.plan_name.specs.Planned.{IsPlannedCall, TakesFrom};
+ghost use Rattle.plan_name.specs.Planned.{IsPlannedCall, HasShape, TakesOnly};
 ghost use Rattle.plan_rename.specs.Renames.{GrowingWithin, MovesToEnd};
 ghost use Rattle.rename_puts.specs.Renamed.{Renaming, asked_of};
-ghost use Rattle.stable.specs.Counts.{Rose};
-ghost use Rattle.stable.specs.Looked.{Looked};
 ghost use Rattle.v7_map.specs.Frame.{frame};
 ghost use Rattle.v7_map.specs.Weak.{IsStrong};
 ghost use Rattle.v7_sets.specs.Sets.{AreSetsOf};
@@ -33,13 +29,8 @@ pub(crate) fn put_longer<S: Stable>(
 ) -> Result<Planned, PlanFault>
     requires within { GrowingWithin (S.sector_count store.old) growing.now }
     ensures planned { S.tells → IsStrong (frame (S.image store.old)) → AreSetsOf (S.image store.old) sets.old.blocks sets.old.inodes → (call : Renaming) → MovesToEnd (S.image store.old) call now growing.now → IfOk result (λ r. IsPlannedCall (S.image store.old) (asked_of call) now sets.new r) }
-    ensures fits { IfOk result (λ r. CanBePut (S.sector_count store.old) 5 r.plan.puts) }
-    ensures room { IfOk result (λ r. r.plan.room ≤ 5) }
-    ensures form { IfOk result (λ r. IsDoneReply r.reply) }
-    ensures takes { TakesFrom sets.old sets.new }
-    ensures kept { OnErr result (sets.new ≡ sets.old) }
-    ensures cause { IsErrOf result fault.Failed → Rose (S.faults store.old) (S.faults store.new) }
-    ensures looked { Looked S.Stable store.old store.new }
+    ensures shape { HasShape S.Stable store.old store.new 5 IsDoneReply result }
+    ensures takes { TakesOnly sets.old sets.new result }
 {
     let Some(laid) = lay_out(store, &sets.blocks, &growing.inode)? else {
         return Ok(refused(alloc, Stat::Io));

@@ -8,3 +8,6 @@ mod putting;
 mod refusals;
 
 pub use planning::plan_rename;
+
+#[cfg(test)]
+mod tests;

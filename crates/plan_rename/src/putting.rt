@@ -1,15 +1,11 @@
 // The plans of a RENAME that changes something.
 
-ghost use Rattle.std.specs.Prelude.{◌≡◌, ◌<◌, ◌≤◌, [], None, IfOk, IsErrOf};
+ghost use Rattle.std.specs.Prelude.{◌≡◌, ◌<◌, [], None, IfOk};
 ghost use Rattle.files_model.specs.declared.reply.Reply.TheVariants as reply;
-ghost use Rattle.plan_file.specs.declared.fault.PlanFault.TheVariants as fault;
-ghost use Rattle.plan_name.specs.Creating.{CanBePut};
 ghost use Rattle.plan_name.specs.Freeing.{IsDoneReply};
-ghost use Rattle.plan_name.specs.Planned.{IsPlannedCall};
+ghost use Rattle.plan_name.specs.Planned.{IsPlannedCall, HasShape};
 ghost use Rattle.rename_puts.specs.Renamed.{Renaming, asked_of, GivesName, MovesName, ReplacesName};
 ghost use Rattle.rename_puts.specs.Slots.{PlaceWithin, MovedWithin};
-ghost use Rattle.stable.specs.Counts.{Rose};
-ghost use Rattle.stable.specs.Looked.{Looked};
 ghost use Rattle.v7_map.specs.Frame.{frame};
 ghost use Rattle.v7_map.specs.Image.{inode_at, inode_sector};
 ghost use Rattle.v7_map.specs.Weak.{IsStrong};
@@ -48,11 +44,7 @@ pub(crate) fn put_new_name<S: Stable>(
 ) -> Result<Planned, PlanFault>
     requires within { PlaceWithin (S.sector_count store.old) place.now }
     ensures planned { S.tells → IsStrong (frame (S.image store.old)) → (call : Renaming) → GivesName (S.image store.old) call now place.now slot.now → (sets : Sets) → AreSetsOf (S.image store.old) sets.blocks sets.inodes → IfOk result (λ r. IsPlannedCall (S.image store.old) (asked_of call) now sets r) }
-    ensures fits { IfOk result (λ r. CanBePut (S.sector_count store.old) 5 r.plan.puts) }
-    ensures room { IfOk result (λ r. r.plan.room ≤ 5) }
-    ensures form { IfOk result (λ r. IsDoneReply r.reply) }
-    ensures cause { IsErrOf result fault.Failed → Rose (S.faults store.old) (S.faults store.new) }
-    ensures looked { Looked S.Stable store.old store.new }
+    ensures shape { HasShape S.Stable store.old store.new 5 IsDoneReply result }
 {
     let mut plan = Plan::new(alloc, 2)?;
     add_new_name(store, &mut plan, place, slot, now)?;
@@ -68,11 +60,7 @@ pub(crate) fn put_move<S: Stable>(
 ) -> Result<Planned, PlanFault>
     requires within { MovedWithin (S.sector_count store.old) moved.now }
     ensures planned { S.tells → IsStrong (frame (S.image store.old)) → (call : Renaming) → MovesName (S.image store.old) call now moved.now → (sets : Sets) → AreSetsOf (S.image store.old) sets.blocks sets.inodes → IfOk result (λ r. IsPlannedCall (S.image store.old) (asked_of call) now sets r) }
-    ensures fits { IfOk result (λ r. CanBePut (S.sector_count store.old) 5 r.plan.puts) }
-    ensures room { IfOk result (λ r. r.plan.room ≤ 5) }
-    ensures form { IfOk result (λ r. IsDoneReply r.reply) }
-    ensures cause { IsErrOf result fault.Failed → Rose (S.faults store.old) (S.faults store.new) }
-    ensures looked { Looked S.Stable store.old store.new }
+    ensures shape { HasShape S.Stable store.old store.new 5 IsDoneReply result }
 {
     let mut plan = Plan::new(alloc, 4)?;
     add_move(store, &mut plan, moved, now)?;
@@ -91,11 +79,7 @@ pub(crate) fn put_replacement<S: Stable>(
     requires within { MovedWithin (S.sector_count store.old) moved.now }
     requires node { inode_sector lost.now.node < S.sector_count store.old }
     ensures planned { S.tells → IsStrong (frame (S.image store.old)) → (call : Renaming) → ReplacesName (S.image store.old) call now moved.now lost.now → inode.now ≡ inode_at (S.image store.old) lost.now.node → (sets : Sets) → AreSetsOf (S.image store.old) sets.blocks sets.inodes → IfOk result (λ r. IsPlannedCall (S.image store.old) (asked_of call) now sets r) }
-    ensures fits { IfOk result (λ r. CanBePut (S.sector_count store.old) 5 r.plan.puts) }
-    ensures room { IfOk result (λ r. r.plan.room ≤ 5) }
-    ensures form { IfOk result (λ r. IsDoneReply r.reply) }
-    ensures cause { IsErrOf result fault.Failed → Rose (S.faults store.old) (S.faults store.new) }
-    ensures looked { Looked S.Stable store.old store.new }
+    ensures shape { HasShape S.Stable store.old store.new 5 IsDoneReply result }
 {
     let mut plan = Plan::new(alloc, 5)?;
     add_replacement(store, &mut plan, moved, lost, now)?;

@@ -4,7 +4,7 @@ ghost use Rattle.std.specs.Prelude.{◌≡◌, ◌<◌, ◌≤◌, ℕ, List, []
 ghost use Rattle.files_model.specs.Files.{Node};
 ghost use Rattle.files_model.specs.declared.attributes.FileId.{FileId};
 ghost use Rattle.files_model.specs.declared.credential.Cred.{Cred};
-ghost use Rattle.plan_name.specs.Creating.{CanBePut};
+ghost use Rattle.plan_name.specs.Creating.{Builds};
 ghost use Rattle.plan_rmdir.specs.Leaving.{Leaves, IsPlannedRmdir, LeavingWithin};
 ghost use Rattle.stable.specs.Counts.{HasCause};
 ghost use Rattle.stable.specs.Looked.{Looked};
@@ -66,10 +66,7 @@ pub(crate) fn add_leaving<S: Stable>(
     requires room { 3 ≤ plan.old.room }
     requires within { LeavingWithin (S.sector_count store.old) leaving.now }
     ensures planned { S.tells → IsStrong (frame (S.image store.old)) → (dir : FileId) (name : List ℕ) (cred : Cred) (d n : Node) → Leaves (S.image store.old) dir name cred d n leaving.now → OnOk result (IsPlannedRmdir (S.image store.old) dir name cred now leaving.now plan.new.puts) }
-    ensures fits { OnOk result (CanBePut (S.sector_count store.old) 3 plan.new.puts) }
-    ensures room { OnOk result (plan.new.room ≡ plan.old.room) }
-    ensures cause { HasCause (S.faults store.old) (S.faults store.new) result }
-    ensures looked { Looked S.Stable store.old store.new }
+    ensures built { Builds S.Stable store.old store.new 3 plan.old plan.new result }
 {
     let _slot = add_slot(store, plan, leaving.sector, leaving.index, &empty_slot())?;
     if leaving.parent < leaving.directory {

@@ -1,18 +1,14 @@
 // The plan of a SYMLINK of a free name whose directory has no empty slot.
 
-ghost use Rattle.std.specs.Prelude.{◌≡◌, ◌<◌, ◌≤◌, true, IfOk, OnErr, IsErrOf};
+ghost use Rattle.std.specs.Prelude.{◌≡◌, ◌<◌, true, IfOk};
 ghost use Rattle.files_model.specs.Answers.{attr_of};
 ghost use Rattle.files_model.specs.Files.{Node};
 ghost use Rattle.files_model.specs.declared.call.Call.TheVariants.{Symlink};
-ghost use Rattle.plan_file.specs.declared.fault.PlanFault.TheVariants as fault;
-ghost use Rattle.plan_name.specs.Creating.{CanBePut};
 ghost use Rattle.plan_name.specs.Creations.{FitsSlot};
 ghost use Rattle.plan_name.specs.Freeing.{IsDoneReply};
 ghost use Rattle.plan_name.specs.Judging.{IsTold};
-ghost use Rattle.plan_name.specs.Planned.{IsPlannedCall, TakesFrom};
+ghost use Rattle.plan_name.specs.Planned.{IsPlannedCall, HasShape, TakesOnly};
 ghost use Rattle.plan_symlink.specs.Judging.{IsFreeName};
-ghost use Rattle.stable.specs.Counts.{Rose};
-ghost use Rattle.stable.specs.Looked.{Looked};
 ghost use Rattle.v7_map.specs.Image.{inode_at, inode_sector};
 ghost use Rattle.v7_map.specs.View.{view};
 
@@ -47,13 +43,8 @@ pub(crate) fn plan_link_at_end<S: Stable>(
     requires within { inode_sector directory.ino < S.sector_count store.old }
     requires named { FitsSlot name.now }
     ensures planned { S.tells → (d : Node) → IsTold (S.image store.old) directory.ino d (attr_of directory.ino d) true sets.old.blocks sets.old.inodes → inode.now ≡ inode_at (S.image store.old) directory.ino → IsFreeName (view (S.image store.old)) directory name.now d → IfOk result (λ r. IsPlannedCall (S.image store.old) (Symlink directory name.now text.now wanted.now, cred.now) now sets.new r) }
-    ensures fits { IfOk result (λ r. CanBePut (S.sector_count store.old) 6 r.plan.puts) }
-    ensures form { IfOk result (λ r. IsDoneReply r.reply) }
-    ensures room { IfOk result (λ r. r.plan.room ≤ 6) }
-    ensures takes { TakesFrom sets.old sets.new }
-    ensures kept { OnErr result (sets.new ≡ sets.old) }
-    ensures cause { IsErrOf result fault.Failed → Rose (S.faults store.old) (S.faults store.new) }
-    ensures looked { Looked S.Stable store.old store.new }
+    ensures shape { HasShape S.Stable store.old store.new 6 IsDoneReply result }
+    ensures takes { TakesOnly sets.old sets.new result }
 {
     let attr = attributes_of(directory.ino, inode);
     let sectors = text_sectors(text);

@@ -1,18 +1,14 @@
 // The plan of a SYMLINK of a free name whose directory has an empty slot.
 
-ghost use Rattle.std.specs.Prelude.{◌≡◌, ◌≤◌, false, IfOk, OnErr, IsErrOf};
+ghost use Rattle.std.specs.Prelude.{false, IfOk};
 ghost use Rattle.files_model.specs.Files.{Node};
 ghost use Rattle.files_model.specs.declared.call.Call.TheVariants.{Symlink};
-ghost use Rattle.plan_file.specs.declared.fault.PlanFault.TheVariants as fault;
-ghost use Rattle.plan_name.specs.Creating.{CanBePut};
 ghost use Rattle.plan_name.specs.Creations.{FitsSlot, SpotWithin};
 ghost use Rattle.plan_name.specs.Freeing.{IsDoneReply};
 ghost use Rattle.plan_name.specs.Judging.{IsTold};
-ghost use Rattle.plan_name.specs.Planned.{IsPlannedCall, TakesFrom};
+ghost use Rattle.plan_name.specs.Planned.{IsPlannedCall, HasShape, TakesOnly};
 ghost use Rattle.plan_symlink.specs.Judging.{IsFreeName};
 ghost use Rattle.plan_symlink.specs.Making.{IsEmptyAt};
-ghost use Rattle.stable.specs.Counts.{Rose};
-ghost use Rattle.stable.specs.Looked.{Looked};
 ghost use Rattle.v7_map.specs.View.{view};
 
 use crate::judging::judge_link;
@@ -43,13 +39,8 @@ pub(crate) fn plan_link_in_place<S: Stable>(
     requires within { SpotWithin (S.sector_count store.old) spot.now }
     requires named { FitsSlot name.now }
     ensures planned { S.tells → (d : Node) → IsTold (S.image store.old) spot.now.directory.ino d directory.now false sets.old.blocks sets.old.inodes → IsFreeName (view (S.image store.old)) spot.now.directory name.now d → IsEmptyAt (S.image store.old) spot.now.directory.ino spot.now.index spot.now.sector d → IfOk result (λ r. IsPlannedCall (S.image store.old) (Symlink spot.now.directory name.now text.now wanted.now, cred.now) now sets.new r) }
-    ensures fits { IfOk result (λ r. CanBePut (S.sector_count store.old) 5 r.plan.puts) }
-    ensures form { IfOk result (λ r. IsDoneReply r.reply) }
-    ensures room { IfOk result (λ r. r.plan.room ≤ 5) }
-    ensures takes { TakesFrom sets.old sets.new }
-    ensures kept { OnErr result (sets.new ≡ sets.old) }
-    ensures cause { IsErrOf result fault.Failed → Rose (S.faults store.old) (S.faults store.new) }
-    ensures looked { Looked S.Stable store.old store.new }
+    ensures shape { HasShape S.Stable store.old store.new 5 IsDoneReply result }
+    ensures takes { TakesOnly sets.old sets.new result }
 {
     let sectors = text_sectors(text);
     let number = match judge_link(directory, false, sectors, sets, cred) {

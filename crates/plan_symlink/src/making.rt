@@ -5,7 +5,7 @@ ghost use Rattle.files_model.specs.Files.{Node};
 ghost use Rattle.files_model.specs.NameRows.{new_link};
 ghost use Rattle.files_model.specs.declared.call.Call.TheVariants.{Symlink};
 ghost use Rattle.longer_plans.specs.SymlinkPuts.{held_inode};
-ghost use Rattle.plan_name.specs.Creating.{CanBePut, IsPlannedMaking, MapWithin};
+ghost use Rattle.plan_name.specs.Creating.{IsPlannedMaking, MapWithin, Builds};
 ghost use Rattle.plan_name.specs.Creations.{FitsSlot, SpotWithin};
 ghost use Rattle.plan_symlink.specs.Making.{IsEmptyAt, IsNextAt, MayLink};
 ghost use Rattle.plan_symlink.specs.TextBlocks.{AreWithin, text_list};
@@ -69,10 +69,7 @@ pub(crate) fn make_in_place<S: Stable>(
     requires within { SpotWithin (S.sector_count store.old) spot.now × AreWithin (S.sector_count store.old) (text_list held.now) }
     requires named { FitsSlot name.now }
     ensures planned { S.tells → IsStrong (frame (S.image store.old)) → (d : Node) → MayLink (S.image store.old) spot.now.directory name.now text.now wanted.now cred.now now d ino (text_list held.now) → IsEmptyAt (S.image store.old) spot.now.directory.ino spot.now.index spot.now.sector d → OnOk result (IsPlannedMaking (S.image store.old) (Symlink spot.now.directory name.now text.now wanted.now, cred.now) now ino (text_list held.now) plan.new.puts) }
-    ensures fits { OnOk result (CanBePut (S.sector_count store.old) 5 plan.new.puts) }
-    ensures room { OnOk result (plan.new.room ≡ plan.old.room) }
-    ensures cause { HasCause (S.faults store.old) (S.faults store.new) result }
-    ensures looked { Looked S.Stable store.old store.new }
+    ensures built { Builds S.Stable store.old store.new 5 plan.old plan.new result }
 {
     let inode = next_inode(store, plan, ino, text, held, wanted, cred, now)?;
     let entry = Entry {
@@ -105,10 +102,7 @@ pub(crate) fn make_at_end<S: Stable>(
     requires longer { MapWithin (S.sector_count store.old) longer.now × BlocksFit longer.now.blocks }
     requires named { FitsSlot name.now }
     ensures planned { S.tells → IsStrong (frame (S.image store.old)) → (d : Node) (target : Place → ℕ) (new : List ℕ) → MayLink (S.image store.old) spot.now.directory name.now text.now wanted.now cred.now now d ino (text_list held.now) → IsNextAt (S.image store.old) spot.now.directory.ino spot.now.index spot.now.sector longer.now d target new (text_list held.now) → OnOk result (IsPlannedMaking (S.image store.old) (Symlink spot.now.directory name.now text.now wanted.now, cred.now) now ino (text_list held.now ++ new) plan.new.puts) }
-    ensures fits { OnOk result (CanBePut (S.sector_count store.old) 6 plan.new.puts) }
-    ensures room { OnOk result (plan.new.room ≡ plan.old.room) }
-    ensures cause { HasCause (S.faults store.old) (S.faults store.new) result }
-    ensures looked { Looked S.Stable store.old store.new }
+    ensures built { Builds S.Stable store.old store.new 6 plan.old plan.new result }
 {
     let inode = next_inode(store, plan, ino, text, held, wanted, cred, now)?;
     let entry = Entry {

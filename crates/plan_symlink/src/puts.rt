@@ -7,7 +7,7 @@ ghost use Rattle.files_model.specs.declared.attributes.Sattr.{Sattr};
 ghost use Rattle.files_model.specs.declared.call.Call.TheVariants.{Symlink};
 ghost use Rattle.files_model.specs.declared.credential.Cred.{Cred};
 ghost use Rattle.longer_plans.specs.SymlinkPuts.{text_puts};
-ghost use Rattle.plan_name.specs.Creating.{CanBePut, IsPlannedMaking, LaysOut, MapWithin, StandWithin};
+ghost use Rattle.plan_name.specs.Creating.{IsPlannedMaking, LaysOut, MapWithin, StandWithin, Builds};
 ghost use Rattle.plan_symlink.specs.Making.{AreOthers, MakesLink};
 ghost use Rattle.plan_symlink.specs.TextBlocks.{AreWithin, text_list};
 ghost use Rattle.stable.specs.Counts.{HasCause};
@@ -66,10 +66,7 @@ pub(crate) fn add_in_place<S: Stable>(
     requires within { StandWithin (S.sector_count store.old) ino entry.now × AreWithin (S.sector_count store.old) (text_list held.now) }
     requires fits { AddressesFit inode.now }
     ensures planned { S.tells → IsStrong (frame (S.image store.old)) → (dir : FileId) (name : List ℕ) (wanted : Sattr) (cred : Cred) (d : Node) → MakesLink (S.image store.old) dir name text.now wanted cred now d ino (text_list held.now) inode.now entry.now → entry.now.index < length d.slots → entry.now.sector ≡ entry_sector (S.image store.old) entry.now.directory entry.now.index → OnOk result (IsPlannedMaking (S.image store.old) (Symlink dir name text.now wanted, cred) now ino (text_list held.now) plan.new.puts) }
-    ensures fits { OnOk result (CanBePut (S.sector_count store.old) 5 plan.new.puts) }
-    ensures room { OnOk result (plan.new.room ≡ plan.old.room) }
-    ensures cause { HasCause (S.faults store.old) (S.faults store.new) result }
-    ensures looked { Looked S.Stable store.old store.new }
+    ensures built { Builds S.Stable store.old store.new 5 plan.old plan.new result }
 {
     let _inode = add_link(store, plan, text, held, ino, inode)?;
     let _slot = add_slot(store, plan, entry.sector, entry.index, &entry.slot)?;
@@ -95,10 +92,7 @@ pub(crate) fn add_at_end<S: Stable>(
     requires longer { MapWithin (S.sector_count store.old) longer.now × BlocksFit longer.now.blocks }
     requires fits { AddressesFit inode.now }
     ensures planned { S.tells → IsStrong (frame (S.image store.old)) → (dir : FileId) (name : List ℕ) (wanted : Sattr) (cred : Cred) (d : Node) (target : Place → ℕ) (new : List ℕ) → MakesLink (S.image store.old) dir name text.now wanted cred now d ino (text_list held.now) inode.now entry.now → entry.now.index ≡ length d.slots → LaysOut (S.image store.old) entry.now longer.now target new → AreOthers new (text_list held.now) → OnOk result (IsPlannedMaking (S.image store.old) (Symlink dir name text.now wanted, cred) now ino (text_list held.now ++ new) plan.new.puts) }
-    ensures fits { OnOk result (CanBePut (S.sector_count store.old) 6 plan.new.puts) }
-    ensures room { OnOk result (plan.new.room ≡ plan.old.room) }
-    ensures cause { HasCause (S.faults store.old) (S.faults store.new) result }
-    ensures looked { Looked S.Stable store.old store.new }
+    ensures built { Builds S.Stable store.old store.new 6 plan.old plan.new result }
 {
     let _inode = add_link(store, plan, text, held, ino, inode)?;
     let _slot = add_new_slot(store, plan, entry, longer.fresh)?;

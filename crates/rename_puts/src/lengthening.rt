@@ -1,11 +1,9 @@
 // The puts of a RENAME that makes another directory longer.
 
 ghost use Rattle.std.specs.Prelude.{◌≡◌, ◌≤◌, ℕ, List, [], OnOk};
-ghost use Rattle.plan_name.specs.Creating.{CanBePut, MapWithin};
+ghost use Rattle.plan_name.specs.Creating.{MapWithin, Builds};
 ghost use Rattle.rename_puts.specs.Renamed.{Renaming, asked_of, LengthensName, IsPlannedLonger};
 ghost use Rattle.rename_puts.specs.Slots.{MovedWithin};
-ghost use Rattle.stable.specs.Counts.{HasCause};
-ghost use Rattle.stable.specs.Looked.{Looked};
 ghost use Rattle.v7_map.specs.Frame.{Place, frame};
 ghost use Rattle.v7_map.specs.Weak.{IsStrong};
 ghost use Rattle.v7_strokes.specs.Inodes.{BlocksFit};
@@ -30,10 +28,7 @@ pub fn add_longer_move<S: Stable>(
     requires within { MovedWithin (S.sector_count store.old) moved.now }
     requires longer { MapWithin (S.sector_count store.old) longer.now × BlocksFit longer.now.blocks }
     ensures planned { S.tells → IsStrong (frame (S.image store.old)) → (call : Renaming) (target : Place → ℕ) (new : List ℕ) → LengthensName (S.image store.old) call now moved.now longer.now target new → OnOk result (IsPlannedLonger (S.image store.old) (asked_of call) now new plan.new.puts) }
-    ensures fits { OnOk result (CanBePut (S.sector_count store.old) 5 plan.new.puts) }
-    ensures room { OnOk result (plan.new.room ≡ plan.old.room) }
-    ensures cause { HasCause (S.faults store.old) (S.faults store.new) result }
-    ensures looked { Looked S.Stable store.old store.new }
+    ensures built { Builds S.Stable store.old store.new 5 plan.old plan.new result }
 {
     let entry = Entry {
         directory: moved.new.directory,

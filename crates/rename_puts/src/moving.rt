@@ -1,11 +1,9 @@
 // The puts of a RENAME into an empty slot of another directory.
 
 ghost use Rattle.std.specs.Prelude.{◌≡◌, ◌≤◌, [], OnOk};
-ghost use Rattle.plan_name.specs.Creating.{CanBePut};
+ghost use Rattle.plan_name.specs.Creating.{Builds};
 ghost use Rattle.rename_puts.specs.Renamed.{Renaming, asked_of, MovesName, IsPlannedStaying};
 ghost use Rattle.rename_puts.specs.Slots.{MovedWithin};
-ghost use Rattle.stable.specs.Counts.{HasCause};
-ghost use Rattle.stable.specs.Looked.{Looked};
 ghost use Rattle.v7_map.specs.Frame.{frame};
 ghost use Rattle.v7_map.specs.Weak.{IsStrong};
 
@@ -25,10 +23,7 @@ pub fn add_move<S: Stable>(
     requires room { 4 ≤ plan.old.room }
     requires within { MovedWithin (S.sector_count store.old) moved.now }
     ensures planned { S.tells → IsStrong (frame (S.image store.old)) → (call : Renaming) → MovesName (S.image store.old) call now moved.now → OnOk result (IsPlannedStaying (S.image store.old) (asked_of call) now plan.new.puts) }
-    ensures fits { OnOk result (CanBePut (S.sector_count store.old) 4 plan.new.puts) }
-    ensures room { OnOk result (plan.new.room ≡ plan.old.room) }
-    ensures cause { HasCause (S.faults store.old) (S.faults store.new) result }
-    ensures looked { Looked S.Stable store.old store.new }
+    ensures built { Builds S.Stable store.old store.new 4 plan.old plan.new result }
 {
     add_moved(store, plan, moved)?;
     let timed = rising(moved.old.directory, moved.new.directory);

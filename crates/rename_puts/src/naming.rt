@@ -1,11 +1,9 @@
 // The puts of a RENAME inside one directory to a name that is free.
 
 ghost use Rattle.std.specs.Prelude.{◌≡◌, ◌≤◌, [], OnOk};
-ghost use Rattle.plan_name.specs.Creating.{CanBePut};
+ghost use Rattle.plan_name.specs.Creating.{Builds};
 ghost use Rattle.rename_puts.specs.Renamed.{Renaming, asked_of, GivesName, IsPlannedStaying};
 ghost use Rattle.rename_puts.specs.Slots.{PlaceWithin};
-ghost use Rattle.stable.specs.Counts.{HasCause};
-ghost use Rattle.stable.specs.Looked.{Looked};
 ghost use Rattle.v7_map.specs.Frame.{frame};
 ghost use Rattle.v7_map.specs.Weak.{IsStrong};
 
@@ -28,10 +26,7 @@ pub fn add_new_name<S: Stable>(
     requires room { 2 ≤ plan.old.room }
     requires within { PlaceWithin (S.sector_count store.old) place.now }
     ensures planned { S.tells → IsStrong (frame (S.image store.old)) → (call : Renaming) → GivesName (S.image store.old) call now place.now slot.now → OnOk result (IsPlannedStaying (S.image store.old) (asked_of call) now plan.new.puts) }
-    ensures fits { OnOk result (CanBePut (S.sector_count store.old) 2 plan.new.puts) }
-    ensures room { OnOk result (plan.new.room ≡ plan.old.room) }
-    ensures cause { HasCause (S.faults store.old) (S.faults store.new) result }
-    ensures looked { Looked S.Stable store.old store.new }
+    ensures built { Builds S.Stable store.old store.new 2 plan.old plan.new result }
 {
     let _slot = add_slot(store, plan, place.sector, place.index, slot)?;
     add_one(store, plan, Some(place.directory), now)?;

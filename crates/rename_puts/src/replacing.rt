@@ -1,11 +1,9 @@
 // The puts of a RENAME onto a name that stands.
 
 ghost use Rattle.std.specs.Prelude.{◌≡◌, ◌<◌, ◌≤◌, [], OnOk};
-ghost use Rattle.plan_name.specs.Creating.{CanBePut};
+ghost use Rattle.plan_name.specs.Creating.{Builds};
 ghost use Rattle.rename_puts.specs.Renamed.{Renaming, asked_of, ReplacesName, IsPlannedReplacing};
 ghost use Rattle.rename_puts.specs.Slots.{MovedWithin};
-ghost use Rattle.stable.specs.Counts.{HasCause};
-ghost use Rattle.stable.specs.Looked.{Looked};
 ghost use Rattle.v7_map.specs.Frame.{frame};
 ghost use Rattle.v7_map.specs.Image.{inode_sector};
 ghost use Rattle.v7_map.specs.Weak.{IsStrong};
@@ -37,10 +35,7 @@ pub fn add_replacement<S: Stable>(
     requires within { MovedWithin (S.sector_count store.old) moved.now }
     requires node { inode_sector lost.now.node < S.sector_count store.old }
     ensures planned { S.tells → IsStrong (frame (S.image store.old)) → (call : Renaming) → (x : ReplacesName (S.image store.old) call now moved.now lost.now) → OnOk result (IsPlannedReplacing (S.image store.old) (asked_of call) now lost.now.node x.replaced plan.new.puts) }
-    ensures fits { OnOk result (CanBePut (S.sector_count store.old) 5 plan.new.puts) }
-    ensures room { OnOk result (plan.new.room ≡ plan.old.room) }
-    ensures cause { HasCause (S.faults store.old) (S.faults store.new) result }
-    ensures looked { Looked S.Stable store.old store.new }
+    ensures built { Builds S.Stable store.old store.new 5 plan.old plan.new result }
 {
     add_moved(store, plan, moved)?;
     let first = before(moved.old.directory, moved.new.directory, lost.node);

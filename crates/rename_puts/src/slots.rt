@@ -1,7 +1,7 @@
 // The slots of a RENAME.
 
 ghost use Rattle.std.specs.Prelude.{◌≡◌, ◌<◌, ◌≤◌, [], length, None, IfOk, OnOk};
-ghost use Rattle.plan_name.specs.Creating.{CanBePut};
+ghost use Rattle.plan_name.specs.Creating.{Builds};
 ghost use Rattle.rename_puts.specs.Slots.{MovedWithin, PutsMoved};
 ghost use Rattle.stable.specs.Counts.{HasCause};
 ghost use Rattle.stable.specs.Looked.{Looked};
@@ -59,10 +59,7 @@ pub(crate) fn add_moved<S: Stable>(
     requires room { 2 ≤ plan.old.room }
     requires within { MovedWithin (S.sector_count store.old) moved.now }
     ensures moved { S.tells → OnOk result (PutsMoved (S.image store.old) moved.now plan.new.puts) }
-    ensures fits { OnOk result (CanBePut (S.sector_count store.old) 2 plan.new.puts) }
-    ensures room { OnOk result (plan.new.room ≡ plan.old.room) }
-    ensures cause { HasCause (S.faults store.old) (S.faults store.new) result }
-    ensures looked { Looked S.Stable store.old store.new }
+    ensures built { Builds S.Stable store.old store.new 2 plan.old plan.new result }
 {
     let _new = add_slot(store, plan, moved.new.sector, moved.new.index, &moved.slot)?;
     let _old = add_emptied(store, plan, &moved.old)?;

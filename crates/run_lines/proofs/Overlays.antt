@@ -1,32 +1,14 @@
--- A unit as a store, and what a sound crash of its rig shows.
+-- What a sound crash of the rig of a unit shows.
 use Rattle.std.proofs.Common.{inl, ℕ, ◌^◌, ◌≤◌, refl, sym, subst}
 use Rattle.stable.specs.Moments.{IsClocked}
 use Rattle.stable.specs.Store.{Image}
-use Rattle.stable.specs.declared.store.Stable.{Ghosts as StoreGhosts}
 use Rattle.rig.specs.Devices.{Devices, HasShape, IsBoard}
 use Rattle.rig.specs.declared.rig.Rig.{Ghosts}
-use Rattle.nvram_map.specs.Overlay.{overlay}
 use Rattle.presto_unit.specs.Images.{overlays_since}
 use Rattle.presto_unit.specs.Opening.{IsOpenable, opens_since}
-use Rattle.presto_unit.specs.Parts.{rig_of, cache_of, state_of, tally_of}
-use Rattle.presto_unit.specs.Shown.{shown}
-use Rattle.presto_unit.specs.declared.presto.Presto.{Presto}
 use Rattle.presto_unit.proofs.Opening.{sound_open}
 use Rattle.presto_unit.proofs.Whole.{all_shown}
 use Rattle.run_lines.specs.Overlays.{overlays_of}
-
--- a unit as a store
-abbrev pub unit_store : {R : Type 0} (r : Ghosts R) → StoreGhosts (Presto R r)
-unit_store r = record {
-  tells = r.tells;
-  image = λ u. overlay (r.contents (rig_of u));
-  moment = λ u. r.moment (rig_of u);
-  left_since = λ u. overlays_since r.sizes r.left_since (rig_of u);
-  opens_since = λ u. opens_since r.sizes r.left_since (rig_of u);
-  sector_count = λ u. (r.sizes (rig_of u)).sectors;
-  faults = λ u. r.faults (rig_of u);
-  snapshot_of = λ u. shown (state_of u) (cache_of u) (tally_of u);
-}
 
 module _ {R : Type 0} (r : Ghosts R) (clocked : IsClocked r.tells r.contents r.moment r.left_since) where
   -- what can be opened can be opened since now

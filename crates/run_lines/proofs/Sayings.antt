@@ -54,3 +54,11 @@ module _ {S R L C P : Type 0} (h : Ghosts S R L C P) (say : SayGhosts S) where
   -- by the same lines
   pub told_as : {a b : S} {xs ys : List (List ℕ)} → xs ≡ ys → Told h say a b xs → Told h say a b ys
   told_as {a} {b} same p = subst (λ (lines : List (List ℕ)). Told h say a b lines) same p
+
+  -- nothing was said before, and nothing else asked of the host
+  pub told_after : {a b c : S} {xs : List (List ℕ)} → SameLoans h.rigs_left h.rigs_back h.rigs_out a b → SameLoans h.posts_left h.posts_back h.posts_out a b → h.host_faults b ≡ h.host_faults a
+      → SameLines say.lines say.say_faults a b → Told h say b c xs → Told h say a c xs
+  told_after rigs posts faults lines p = record {
+    same = record { rigs = loans_both rigs p.same.rigs; posts = loans_both posts p.same.posts; faults = p.same.faults ∙ faults };
+    said = said_later say lines p.said;
+  }

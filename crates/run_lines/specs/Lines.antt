@@ -14,8 +14,8 @@ no_volume_line word = codes "cannot open " ++ word
 abbrev pub no_memory_line : List ℕ
 no_memory_line = codes "no memory"
 
-abbrev pub device_line : List ℕ
-device_line = codes "device failed on volume 0"
+abbrev pub device_line : ℕ → List ℕ
+device_line volume = codes "device failed on volume " ++ decimal volume
 
 abbrev pub kind_word : Damage → List ℕ
 kind_word Sizes = codes "sizes"
@@ -26,19 +26,23 @@ kind_word Shared = codes "shared"
 kind_word Dots = codes "dots"
 kind_word Slot = codes "slot"
 
--- the volume can't be mended: the sector of its first damage, and the kind
-abbrev pub damage_line : ℕ → Damage → List ℕ
-damage_line sector kind = codes "volume 0 damaged: sector " ++ decimal sector ++ codes " " ++ kind_word kind
+-- the volume of this number can't be mended: the sector of its first damage, and the kind
+abbrev pub damage_line : ℕ → ℕ → Damage → List ℕ
+damage_line volume sector kind = codes "volume " ++ decimal volume ++ codes " damaged: sector " ++ decimal sector ++ codes " " ++ kind_word kind
 
-abbrev pub lost_line : List ℕ
-lost_line = codes "board of volume 0 lost its memory"
+-- what is said of the board of the volume of this number begins so
+abbrev pub board_of : ℕ → List ℕ
+board_of volume = codes "board of volume " ++ decimal volume
 
-abbrev pub unformatted_line : List ℕ
-unformatted_line = codes "board of volume 0 not formatted"
+abbrev pub lost_line : ℕ → List ℕ
+lost_line volume = board_of volume ++ codes " lost its memory"
+
+abbrev pub unformatted_line : ℕ → List ℕ
+unformatted_line volume = board_of volume ++ codes " not formatted"
 
 -- the board has this name, and the volume that one
 abbrev pub strange_line : List ℕ → List ℕ → List ℕ
 strange_line board volume = codes "board " ++ map printed board ++ codes " is not of volume " ++ map printed volume
 
-abbrev pub entry_line : ℕ → List ℕ
-entry_line index = codes "board of volume 0: entry " ++ decimal index ++ codes " bad"
+abbrev pub entry_line : ℕ → ℕ → List ℕ
+entry_line volume index = board_of volume ++ codes ": entry " ++ decimal index ++ codes " bad"

@@ -21,7 +21,7 @@ abbrev pub host_line : List ℕ → HostFault → List ℕ
 host_line missing host_fault.Failed = missing
 host_line missing host_fault.NoMemory = no_memory_line
 
--- what the refusal of a board gives
+-- what the refusal of the board of a volume of this number gives
 abbrev pub board_status : BoardFault → ℕ
 board_status board.Lost = 69
 board_status (board.NotFormatted word) = 70
@@ -30,13 +30,13 @@ board_status (board.BadEntry index word) = 68
 board_status board.Failed = 74
 board_status board.NoMemory = 75
 
-abbrev pub board_line : BoardFault → List ℕ
-board_line board.Lost = lost_line
-board_line (board.NotFormatted word) = unformatted_line
-board_line (board.WrongVolume name volume) = strange_line name volume
-board_line (board.BadEntry index word) = entry_line index
-board_line board.Failed = device_line
-board_line board.NoMemory = no_memory_line
+abbrev pub board_line : ℕ → BoardFault → List ℕ
+board_line n board.Lost = lost_line n
+board_line n (board.NotFormatted word) = unformatted_line n
+board_line n (board.WrongVolume name volume) = strange_line name volume
+board_line n (board.BadEntry index word) = entry_line n index
+board_line n board.Failed = device_line n
+board_line n board.NoMemory = no_memory_line
 
 -- what the refusal of a unit gives; a super-block that is missing is damaged in its sizes
 abbrev pub unit_status : UnitFault → ℕ
@@ -45,11 +45,11 @@ unit_status (unit.NoSuper sectors) = 68
 unit_status unit.Failed = 74
 unit_status unit.NoMemory = 75
 
-abbrev pub unit_line : UnitFault → List ℕ
-unit_line (unit.Board why) = board_line why
-unit_line (unit.NoSuper sectors) = damage_line 1 Sizes
-unit_line unit.Failed = device_line
-unit_line unit.NoMemory = no_memory_line
+abbrev pub unit_line : ℕ → UnitFault → List ℕ
+unit_line n (unit.Board why) = board_line n why
+unit_line n (unit.NoSuper sectors) = damage_line n 1 Sizes
+unit_line n unit.Failed = device_line n
+unit_line n unit.NoMemory = no_memory_line
 
 -- what the refusal of a volume gives
 abbrev pub volume_status : RepairFault → ℕ
@@ -57,10 +57,10 @@ volume_status (volume.Damaged sector which) = 68
 volume_status volume.Failed = 74
 volume_status volume.NoMemory = 75
 
-abbrev pub volume_line : RepairFault → List ℕ
-volume_line (volume.Damaged sector which) = damage_line sector which
-volume_line volume.Failed = device_line
-volume_line volume.NoMemory = no_memory_line
+abbrev pub volume_line : ℕ → RepairFault → List ℕ
+volume_line n (volume.Damaged sector which) = damage_line n sector which
+volume_line n volume.Failed = device_line n
+volume_line n volume.NoMemory = no_memory_line
 
 -- a status and a line
 pub record Refuses (status : ℕ) (line : List ℕ) (refusal : Refusal) : Type 0 where

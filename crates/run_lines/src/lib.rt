@@ -8,7 +8,7 @@ mod program;
 mod refusing;
 mod telling;
 
-pub use lines::{Line, line_of, no_volume_line, push_name};
+pub use lines::{Line, device_line, line_of, no_volume_line, push_name};
 pub use naming::{Named, read_volume};
 pub use numbers::read_number;
 pub use program::{Unread, read_command_line, refuse_words};

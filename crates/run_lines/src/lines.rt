@@ -1,6 +1,6 @@
 //! The lines that a program says, without memory.
 ghost use Rattle.std.specs.Prelude.{◌≡◌, ◌+◌, ◌≤◌, ◌<◌, ◌++◌, length, map};
-ghost use Rattle.run_lines.specs.Lines.{printed, kind_word, damage_line, no_volume_line, strange_line, entry_line};
+ghost use Rattle.run_lines.specs.Lines.{printed, kind_word, board_of, damage_line, device_line, no_volume_line, strange_line, entry_line, lost_line, unformatted_line};
 
 use arrayvec::ArrayString;
 use itoa::Buffer;
@@ -54,15 +54,56 @@ pub fn strange_line(board: &[u8; 6], volume: &[u8; 6]) -> Line
     line
 }
 
-/// This entry of the board of volume 0 is damaged.
-pub fn entry_line(index: u32) -> Line
-    ensures { result.bytes ≡ entry_line index }
+// What is said of the board of the volume of this number begins so.
+fn board_of(volume: u32) -> Line
+    ensures bytes { result.bytes ≡ board_of volume }
+    ensures short { length result.bytes ≤ 30 }
 {
     let mut number = Buffer::new();
     let mut line = Line::new();
-    line.push_str("board of volume 0: entry ");
+    line.push_str("board of volume ");
+    line.push_str(number.format(volume));
+    line
+}
+
+/// The board of the volume of this number lost its memory.
+pub fn lost_line(volume: u32) -> Line
+    ensures { result.bytes ≡ lost_line volume }
+{
+    let mut line = board_of(volume);
+    line.push_str(" lost its memory");
+    line
+}
+
+/// The board of the volume of this number isn't formatted.
+pub fn unformatted_line(volume: u32) -> Line
+    ensures { result.bytes ≡ unformatted_line volume }
+{
+    let mut line = board_of(volume);
+    line.push_str(" not formatted");
+    line
+}
+
+/// This entry of the board of the volume of this number is damaged.
+pub fn entry_line(volume: u32, index: u32) -> Line
+    ensures { result.bytes ≡ entry_line volume index }
+{
+    let mut number = Buffer::new();
+    let mut line = board_of(volume);
+    line.push_str(": entry ");
     line.push_str(number.format(index));
     line.push_str(" bad");
+    line
+}
+
+/// A device of the volume of this number failed.
+pub fn device_line(volume: u32) -> Line
+    ensures { result.bytes ≡ device_line volume }
+{
+    let mut number = Buffer::new();
+    let mut line = Line::new();
+    line.push_str("device failed on volume ");
+    line.push_str(number.format(volume));
     line
 }
 
@@ -81,13 +122,15 @@ fn kind_word(kind: Damage) -> &'static str
     }
 }
 
-/// Volume 0 can't be mended: the sector of its first damage, and the kind.
-pub fn damage_line(sector: u32, kind: Damage) -> Line
-    ensures { result.bytes ≡ damage_line sector kind }
+/// The volume of this number can't be mended: the sector of its first damage, and the kind.
+pub fn damage_line(volume: u32, sector: u32, kind: Damage) -> Line
+    ensures { result.bytes ≡ damage_line volume sector kind }
 {
     let mut number = Buffer::new();
     let mut line = Line::new();
-    line.push_str("volume 0 damaged: sector ");
+    line.push_str("volume ");
+    line.push_str(number.format(volume));
+    line.push_str(" damaged: sector ");
     line.push_str(number.format(sector));
     line.push_str(" ");
     line.push_str(kind_word(kind));

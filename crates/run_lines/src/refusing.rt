@@ -2,7 +2,9 @@
 ghost use Rattle.run_lines.specs.Lines.{no_memory_line, device_line, damage_line};
 ghost use Rattle.run_lines.specs.Refusals.{Refuses, host_status, host_line, board_status, board_line, unit_status, unit_line, volume_status, volume_line};
 
-use crate::lines::{Line, damage_line, entry_line, line_of, strange_line};
+use crate::lines::{
+    Line, damage_line, device_line, entry_line, line_of, lost_line, strange_line, unformatted_line,
+};
 use nvram_map::BoardFault;
 use presto_recover::OpenFault as UnitFault;
 use rig::HostFault;
@@ -30,18 +32,18 @@ pub fn no_memory() -> Refusal
     Refusal::new(75, line_of("no memory"))
 }
 
-/// A device failed: 74.
-pub fn device_failed() -> Refusal
-    ensures { Refuses 74 device_line result }
+/// A device of the volume of this number failed: 74.
+pub fn device_failed(volume: u32) -> Refusal
+    ensures { Refuses 74 (device_line volume) result }
 {
-    Refusal::new(74, line_of("device failed on volume 0"))
+    Refusal::new(74, device_line(volume))
 }
 
-/// The volume can't be mended: 68. A super-block that is missing is damaged in its sizes.
-pub fn damaged(sector: u32, kind: Damage) -> Refusal
-    ensures { Refuses 68 (damage_line sector kind) result }
+/// The volume of this number can't be mended: 68. A super-block that is missing is damaged in its sizes.
+pub fn damaged(volume: u32, sector: u32, kind: Damage) -> Refusal
+    ensures { Refuses 68 (damage_line volume sector kind) result }
 {
-    Refusal::new(68, damage_line(sector, kind))
+    Refusal::new(68, damage_line(volume, sector, kind))
 }
 
 /// The host gave nothing: 66, or 75 for want of memory. The line says what it failed to give.
@@ -54,43 +56,41 @@ pub fn host_refusal(fault: HostFault, missing: Line) -> Refusal
     }
 }
 
-// The board isn't one of the volume.
-fn board_refusal(fault: BoardFault) -> Refusal
-    ensures { Refuses (board_status fault) (board_line fault) result }
+// The board isn't one of the volume of this number.
+fn board_refusal(number: u32, fault: BoardFault) -> Refusal
+    ensures { Refuses (board_status fault) (board_line number fault) result }
 {
     match fault {
-        BoardFault::Lost => Refusal::new(69, line_of("board of volume 0 lost its memory")),
-        BoardFault::NotFormatted { word: _ } => {
-            Refusal::new(70, line_of("board of volume 0 not formatted"))
-        }
+        BoardFault::Lost => Refusal::new(69, lost_line(number)),
+        BoardFault::NotFormatted { word: _ } => Refusal::new(70, unformatted_line(number)),
         BoardFault::WrongVolume { board, volume } => {
             Refusal::new(67, strange_line(&board, &volume))
         }
-        BoardFault::BadEntry { index, word: _ } => Refusal::new(68, entry_line(index)),
-        BoardFault::Failed => device_failed(),
+        BoardFault::BadEntry { index, word: _ } => Refusal::new(68, entry_line(number, index)),
+        BoardFault::Failed => device_failed(number),
         BoardFault::NoMemory => no_memory(),
     }
 }
 
-/// The disk and its board weren't opened: 67 to 70 by the board, 68 where there is no super-block, 74 or 75.
-pub fn unit_refusal(fault: UnitFault) -> Refusal
-    ensures { Refuses (unit_status fault) (unit_line fault) result }
+/// The disk and the board of the volume of this number weren't opened: 67 to 70 by the board, 68 where there is no super-block, 74 or 75.
+pub fn unit_refusal(number: u32, fault: UnitFault) -> Refusal
+    ensures { Refuses (unit_status fault) (unit_line number fault) result }
 {
     match fault {
-        UnitFault::Board(fault) => board_refusal(fault),
-        UnitFault::NoSuper { sectors: _ } => damaged(1, Damage::Sizes),
-        UnitFault::Failed => device_failed(),
+        UnitFault::Board(fault) => board_refusal(number, fault),
+        UnitFault::NoSuper { sectors: _ } => damaged(number, 1, Damage::Sizes),
+        UnitFault::Failed => device_failed(number),
         UnitFault::NoMemory => no_memory(),
     }
 }
 
-/// The volume wasn't inspected or mended: 68 where it can't be, 74 or 75.
-pub fn volume_refusal(fault: RepairFault) -> Refusal
-    ensures { Refuses (volume_status fault) (volume_line fault) result }
+/// The volume of this number wasn't inspected or mended: 68 where it can't be, 74 or 75.
+pub fn volume_refusal(number: u32, fault: RepairFault) -> Refusal
+    ensures { Refuses (volume_status fault) (volume_line number fault) result }
 {
     match fault {
-        RepairFault::Damaged { sector, kind } => damaged(sector, kind),
-        RepairFault::Failed => device_failed(),
+        RepairFault::Damaged { sector, kind } => damaged(number, sector, kind),
+        RepairFault::Failed => device_failed(number),
         RepairFault::NoMemory => no_memory(),
     }
 }

@@ -25,10 +25,10 @@ fn a_damage_has_its_sector_and_kind(rt: HostRuntime) -> Result<(), Fail> {
         (2, Damage::Dots, "volume 0 damaged: sector 2 dots"),
         (4, Damage::Slot, "volume 0 damaged: sector 4 slot"),
     ] {
-        assert!(rt; is(&damaged(sector, kind), 68, line), "{line}");
+        assert!(rt; is(&damaged(0, sector, kind), 68, line), "{line}");
         assert!(rt;
             is(
-                &volume_refusal(RepairFault::Damaged { sector, kind }),
+                &volume_refusal(0, RepairFault::Damaged { sector, kind }),
                 68,
                 line
             ),
@@ -62,22 +62,22 @@ fn a_board_has_its_line(rt: HostRuntime) -> Result<(), Fail> {
         ),
     ] {
         assert!(rt;
-            is(&unit_refusal(OpenFault::Board(fault)), status, line),
+            is(&unit_refusal(0, OpenFault::Board(fault)), status, line),
             "{line}"
         );
     }
     assert!(rt;
         is(
-            &unit_refusal(OpenFault::NoSuper { sectors: 1 }),
+            &unit_refusal(1, OpenFault::NoSuper { sectors: 1 }),
             68,
-            "volume 0 damaged: sector 1 sizes"
+            "volume 1 damaged: sector 1 sizes"
         )
     );
     assert!(rt;
         is(
-            &unit_refusal(OpenFault::Failed),
+            &unit_refusal(3, OpenFault::Failed),
             74,
-            "device failed on volume 0"
+            "device failed on volume 3"
         )
     );
     assert!(rt;

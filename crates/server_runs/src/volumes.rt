@@ -9,11 +9,11 @@ use volume_mem::{Shape, test_volume};
 /// Another byte: its sector, its place there, and what it is.
 pub type Patch = (usize, usize, u8);
 
-/// A rig with this disk.
+/// A rig with this disk, of 4,096 sectors at the most.
 pub fn rig_with(alloc: Global, disk: Vec<[u8; 512]>) -> MemRig {
     let mut disk = disk;
     // a rig asks that its sectors can be numbered
-    disk.truncate(64);
+    disk.truncate(4096);
     MemRig::with_disk(alloc, disk)
 }
 

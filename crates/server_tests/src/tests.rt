@@ -2,6 +2,7 @@
 
 mod calls;
 mod damages;
+mod many;
 mod reading;
 mod refusals;
 mod runs;

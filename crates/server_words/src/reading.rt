@@ -50,7 +50,7 @@ fn meaning_of<'a>(alloc: Global, matches: &ArgMatches<'a>) -> Result<Option<Word
     }
 }
 
-/// What the words after the program's name ask for (docs/CALLS.md, "With several volumes"); None exactly where they aren't of the grammar: where `clap`
+/// What the words after the program's name ask for (docs/CALLS.md, "Words"); None exactly where they aren't of the grammar: where `clap`
 /// doesn't accept them for the command, or a number or a volume fails its check. An error is want of memory, and says nothing of the words.
 pub fn read_words<'a>(alloc: Global, words: &'a [String]) -> Result<Option<Words<'a>>, AllocError>
     ensures read { IfOk result (λ read. option_map words_read read ≡ asked_by (map string_bytes words.entry.now)) }

@@ -1,7 +1,6 @@
 // One call on a volume with nothing to mend.
-ghost use Rattle.std.specs.Prelude.{◌≡◌, true, false};
+ghost use Rattle.std.specs.Prelude.{◌≡◌, false};
 ghost use Rattle.files_model.specs.Step.{is_change};
-ghost use Rattle.served_calls.specs.Served.{is_served};
 ghost use Rattle.stable.specs.Store.{StaysOpenable};
 ghost use Rattle.v7_map.specs.View.{view};
 ghost use Rattle.volume.specs.Applied.{Applies, hurts};
@@ -58,7 +57,6 @@ pub fn make_call<S: Stable>(
     cred: &Cred,
     now: u32,
 ) -> Outcome
-    requires row { is_served call.now ≡ true }
     requires rest { RestsOn S.Stable store.old false sets.old }
     ensures rest { RestsOn S.Stable store.new (hurts call.now result) sets.new }
     ensures applied { Applies S.Stable store.old store.new false (hurts call.now result) call.now cred.now now result }

@@ -27,7 +27,6 @@ pub struct Volume<S> {
 impl<S: Tended> Volume<S> {
     ghost use Rattle.std.specs.Prelude.{◌≡◌, ◌≤◌, ◌+◌, true, false, length, Ok, IfOk, OnOk, IsErrOf};
     ghost use Rattle.files_model.specs.Batch.{cost};
-    ghost use Rattle.served_calls.specs.Served.{is_served};
     ghost use Rattle.plan_file.specs.Planned.{plan_puts};
     ghost use Rattle.stable.specs.Counts.{HasCause, Rose};
     ghost use Rattle.stable.specs.Looked.{Looked, KeepsImage};
@@ -119,7 +118,6 @@ impl<S: Tended> Volume<S> {
     /// and if it changes files the volume is hurt. NoMemory leaves the files as they were, and comes of a GETATTR, a LOOKUP
     /// or a STATFS only where the volume was hurt.
     pub fn apply(&mut self, call: &Call, cred: &Cred, now: u32) -> Outcome
-        requires row { is_served call.now ≡ true }
         requires rest { Rests S.Stable self.old }
         ensures rest { Rests S.Stable self.new }
         ensures applied { Applies S.Stable (store_of self.old) (store_of self.new) (is_hurt self.old) (is_hurt self.new) call.now cred.now now result }

@@ -1,7 +1,7 @@
 // The calls that make, take away and change names (RFC 1094 2.2.10 to 2.2.16).
-ghost use Rattle.std.specs.Prelude.{◌≡◌, true, false, IfOk, OnErr, IsErrOf};
+ghost use Rattle.std.specs.Prelude.{◌≡◌, true, false, IfOk, IsErrOf};
 ghost use Rattle.plan_file.specs.declared.fault.PlanFault.TheVariants as fault;
-ghost use Rattle.plan_name.specs.Planned.{IsPlannedCall, TakesFrom};
+ghost use Rattle.plan_name.specs.Planned.{IsPlannedCall, TakesOnly};
 ghost use Rattle.stable.specs.Counts.{Rose};
 ghost use Rattle.stable.specs.Looked.{Looked};
 ghost use Rattle.stable.specs.Store.{StaysOpenable};
@@ -40,8 +40,7 @@ fn plan_names<S: Stable>(
     requires named { changes_names call.now ≡ true }
     ensures planned { S.tells → IsStrong (frame (S.image store.old)) → AreSetsOf (S.image store.old) sets.old.blocks sets.old.inodes → IfOk result (λ r. IsPlannedCall (S.image store.old) (call.now, cred.now) now sets.new r) }
     ensures can { IfOk result (CanBeDone (S.sector_count store.old) call.now) }
-    ensures takes { TakesFrom sets.old sets.new }
-    ensures kept { OnErr result (sets.new ≡ sets.old) }
+    ensures takes { TakesOnly sets.old sets.new result }
     ensures cause { IsErrOf result fault.Failed → Rose (S.faults store.old) (S.faults store.new) }
     ensures looked { Looked S.Stable store.old store.new }
 {

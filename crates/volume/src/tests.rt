@@ -1,7 +1,6 @@
 //! The test volume over a store in memory: opened, called, hurt, mended and stopped.
 
-ghost use Rattle.std.specs.Prelude.{◌≡◌, true, IfOk};
-ghost use Rattle.served_calls.specs.Served.{is_served};
+ghost use Rattle.std.specs.Prelude.{true, IfOk};
 ghost use Rattle.volume.specs.Rests.{Rests};
 
 mod growth;
@@ -44,9 +43,7 @@ fn opened(alloc: Global, store: Memory) -> Result<(Volume<Memory>, Repaired), Fa
 }
 
 // A WRITE of "XY" at byte 511 of the file.
-fn write(alloc: Global) -> Result<Call, Fail>
-    ensures { IfOk result (λ call. is_served call ≡ true) }
-{
+fn write(alloc: Global) -> Result<Call, Fail> {
     Ok(Call::Write {
         file: FILE,
         offset: 511,

@@ -14,8 +14,7 @@ use Rattle.presto_unit.specs.Shown.{dirty_in}
 use Rattle.presto_unit.specs.declared.presto.Presto.{Presto}
 use Rattle.v7_damage.specs.Undamaged.{IsFaultOf}
 use Rattle.v7_inspect.specs.SeenNumbers.{IsSeen}
-use Rattle.run_lines.specs.Overlays.{overlay_of}
-use Rattle.run_lines.proofs.Overlays.{unit_store}
+use Rattle.run_lines.specs.Overlays.{overlay_of, unit_store}
 use Rattle.volume_tool.specs.Checked.{Accepts, ChecksAs, ChecksStore}
 use Rattle.volume_tool.specs.Course.{Course, Usage, Unfit, NoRig, NotMade, Made, NoUnit, NoVolume, Checked, NotStopped, Recovered}
 use Rattle.volume_tool.specs.Recovered.{IsStoppedClean, RecoversAs, RecoversStore}

@@ -23,8 +23,8 @@ use Rattle.v7_repair.specs.declared.mended.Mended.{Mended}
 use Rattle.v7_map.specs.Frame.{Frame, frame}
 use Rattle.v7_map.specs.View.{view}
 use Rattle.v7_map.specs.Weak.{IsWeak}
-use Rattle.run_lines.specs.Overlays.{overlay_of, overlays_of}
-use Rattle.run_lines.proofs.Overlays.{image_shown, opens_now, unit_store}
+use Rattle.run_lines.specs.Overlays.{overlay_of, overlays_of, unit_store}
+use Rattle.run_lines.proofs.Overlays.{image_shown, opens_now}
 use Rattle.volume_tool.specs.Kept.{Keeps, KeepsStore, SameFiles}
 
 -- ---- of a store

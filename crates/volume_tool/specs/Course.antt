@@ -35,7 +35,7 @@ make_status make.NoMemory = 75
 abbrev pub make_line : MakeFault → List ℕ
 make_line (make.TooSmall need have) = small_line need have
 make_line make.TooLarge = large_line
-make_line make.Failed = device_line
+make_line make.Failed = device_line 0
 make_line make.NoMemory = no_memory_line
 
 -- the status; in place of 0 it is 74 where the line can't be said
@@ -57,10 +57,10 @@ line_of (Unfit fault) = make_line fault
 line_of (NoRig word fault) = host_line (no_volume_line word) fault
 line_of (NotMade fault) = make_line fault
 line_of (Made sectors inodes free) = made_line sectors inodes free
-line_of (NoUnit fault) = unit_line fault
-line_of (NoVolume fault) = volume_line fault
+line_of (NoUnit fault) = unit_line 0 fault
+line_of (NoVolume fault) = volume_line 0 fault
 line_of (Checked seen) = seen_line seen
-line_of NotStopped = device_line
+line_of NotStopped = device_line 0
 line_of (Recovered recovered repaired) = recovered_line recovered repaired
 
 -- the host gave a rig

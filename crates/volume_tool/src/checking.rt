@@ -21,7 +21,7 @@ fn check_store<H: Host, S: Stable>(alloc: Global, host: &mut H, store: &mut S) -
     ensures runs { Runs H.Host.own H.Say (ChecksStore S.Stable store.old store.new) host.old host.new result }
 {
     match inspect(alloc, store) {
-        Err(fault) => refuse(host, volume_refusal(fault)),
+        Err(fault) => refuse(host, volume_refusal(0, fault)),
         Ok(seen) => answer(host, seen_line(&seen).as_str()),
     }
 }
@@ -32,7 +32,7 @@ pub fn check_rig<H: Host, R: Rig + Drop>(alloc: Global, host: &mut H, rig: R) ->
     ensures runs { Runs H.Host.own H.Say (ChecksAs R.Rig rig result.1) host.old host.new result.0 }
 {
     match open(alloc, rig, false) {
-        Err((fault, rig)) => (refuse(host, unit_refusal(fault)), rig),
+        Err((fault, rig)) => (refuse(host, unit_refusal(0, fault)), rig),
         Ok(opened) => {
             let mut unit = opened.presto;
             let status = check_store(alloc, host, &mut unit);

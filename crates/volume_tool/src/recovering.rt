@@ -58,7 +58,7 @@ fn finish<H: Host, S: Tended>(
     ensures runs { Runs H.Host.own H.Say (StopsStore S.Stable mended.now recovered second store.old store.new) host.old host.new result }
 {
     match stop_store(store, &mended.sets, second) {
-        Err(Failed) => refuse(host, device_failed()),
+        Err(Failed) => refuse(host, device_failed(0)),
         Ok(()) => answer(
             host,
             recovered_line(recovered, mended.repaired.changed).as_str(),
@@ -78,7 +78,7 @@ fn recover_store<H: Host, S: Tended>(
 {
     let second = host.now();
     match repair(alloc, store) {
-        Err(fault) => refuse(host, volume_refusal(fault)),
+        Err(fault) => refuse(host, volume_refusal(0, fault)),
         Ok(mended) => finish(host, store, &mended, recovered, second),
     }
 }
@@ -95,7 +95,7 @@ pub fn recover_rig<H: Host, R: Rig + Drop>(
     ensures runs { Runs H.Host.own H.Say (RecoversAs R.Rig accept_loss rig result.1) host.old host.new result.0 }
 {
     match open(alloc, rig, accept_loss) {
-        Err((fault, rig)) => (refuse(host, unit_refusal(fault)), rig),
+        Err((fault, rig)) => (refuse(host, unit_refusal(0, fault)), rig),
         Ok(opened) => {
             let mut unit = opened.presto;
             let status = recover_store(alloc, host, &mut unit, opened.recovered);

@@ -34,7 +34,7 @@ pub fn make_refusal(fault: MakeFault) -> Refusal
             status: 65,
             line: line_of("too large"),
         },
-        MakeFault::Failed => device_failed(),
+        MakeFault::Failed => device_failed(0),
         MakeFault::NoMemory => no_memory(),
     }
 }

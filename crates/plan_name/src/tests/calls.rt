@@ -1,118 +1,61 @@
 //! A CREATE and a REMOVE planned whole, put on the volume, and what they free given back.
 
-ghost use Rattle.v7_layout.specs.Written.{AddressesFit};
-
-use super::{NOTHING, caller, named};
+use super::named;
 use crate::{Planned, plan_create, plan_remove};
-use files_model::{Cred, FileId, Gids, Reply, Sattr, Stat};
-use stable::Stable;
+use files_model::{Cred, Reply, Sattr, Stat};
+use small_volumes::{NOTHING, ROOT_ID, Small, sectors_put, times, user};
 use std::alloc::Global;
 use std::test::Fail;
-use store_mem::Memory;
 use v7_layout::Inode;
-use v7_read::inode_in;
 use v7_sets::Sets;
-use v7_strokes::{slot_of, with_inode, with_slot};
-use volume_mem::{FRESH, Shape, test_volume};
+use volume_mem::{FRESH, Shape};
 
-const ROOT: FileId = FileId {
-    ino: 2,
-    generation: 1,
-};
-
-// A volume with what is free on it.
-#[derive(Drop)]
-struct Small {
-    alloc: Global,
-    store: Memory,
-    sets: Sets,
+// The test volume of this shape, whose blocks from 7 on and i-numbers from 4 on are free.
+fn volume(alloc: Global, shape: Shape) -> Result<Small, Fail> {
+    let mut small = Small::new(alloc, shape)?;
+    for block in 7..64 {
+        small.sets.blocks.give(block);
+    }
+    for number in 4..17 {
+        small.sets.inodes.give(number);
+    }
+    Ok(small)
 }
 
-impl Small {
-    // The test volume of this shape.
-    fn new(alloc: Global, shape: Shape) -> Result<Small, Fail> {
-        let mut sectors = test_volume(alloc, shape)?;
-        sectors.truncate(64);
-        let store = Memory::new(alloc, sectors.as_slice())?;
-        let mut sets = Sets::new(alloc, 64, 17)?;
-        for block in 7..64 {
-            sets.blocks.give(block);
-        }
-        for number in 4..17 {
-            sets.inodes.give(number);
-        }
-        Ok(Small { alloc, store, sets })
+// Puts the plan, and gives back what it frees.
+fn run(small: &mut Small, planned: &Planned) -> Result<(), Fail> {
+    small.put(&planned.plan)?;
+    for block in planned.freed.blocks.as_slice() {
+        small.sets.blocks.give(*block);
     }
-
-    // The inode of a number below 9.
-    fn inode(&self, ino: u32) -> Inode
-        ensures { AddressesFit result }
-    {
-        inode_in(&self.store.sector(2), ino)
+    match planned.freed.inode {
+        Some(number) => small.sets.inodes.give(number),
+        None => {}
     }
-
-    // Puts another inode of a number below 9.
-    fn set_inode(&mut self, ino: u32, inode: &Inode) -> Result<(), Fail>
-        requires { AddressesFit inode.now }
-    {
-        let bytes = with_inode(&self.store.sector(2), ino, inode);
-        self.set(2, &bytes)
-    }
-
-    fn set(&mut self, sector: u32, bytes: &[u8; 512]) -> Result<(), Fail> {
-        if sector >= self.store.sectors() {
-            return Err("past the store".into());
-        }
-        self.store.put(sector, bytes)?;
-        Ok(())
-    }
-
-    // Puts the plan, and gives back what it frees.
-    fn run(&mut self, planned: &Planned) -> Result<(), Fail> {
-        for put in planned.plan.puts() {
-            self.set(put.0, &put.1)?;
-        }
-        for block in planned.freed.blocks.as_slice() {
-            self.sets.blocks.give(*block);
-        }
-        match planned.freed.inode {
-            Some(number) => self.sets.inodes.give(number),
-            None => {}
-        }
-        Ok(())
-    }
-
-    // A CREATE in the root by the superuser.
-    fn create(&mut self, name: &[u8], wanted: &Sattr, now: u32) -> Result<Planned, Fail> {
-        let name = named(name);
-        let cred = superuser();
-        let planned = plan_create(
-            self.alloc,
-            &mut self.store,
-            &mut self.sets,
-            ROOT,
-            &name,
-            wanted,
-            &cred,
-            now,
-        );
-        Ok(planned.map_err(|_| "not planned")?)
-    }
-
-    // A REMOVE in the root.
-    fn remove(&mut self, name: &[u8], cred: &Cred, now: u32) -> Result<Planned, Fail> {
-        let name = named(name);
-        let planned = plan_remove(self.alloc, &mut self.store, ROOT, &name, cred, now);
-        Ok(planned.map_err(|_| "not planned")?)
-    }
+    Ok(())
 }
 
-fn superuser() -> Cred {
-    Cred {
-        uid: 0,
-        gid: 0,
-        gids: Gids::copy(&[]),
-    }
+// A CREATE in the root by the superuser.
+fn create(small: &mut Small, name: &[u8], wanted: &Sattr, now: u32) -> Result<Planned, Fail> {
+    let name = named(name);
+    let planned = plan_create(
+        small.alloc,
+        &mut small.store,
+        &mut small.sets,
+        ROOT_ID,
+        &name,
+        wanted,
+        &user(0),
+        now,
+    );
+    Ok(planned.map_err(|_| "not planned")?)
+}
+
+// A REMOVE in the root.
+fn remove(small: &mut Small, name: &[u8], cred: &Cred, now: u32) -> Result<Planned, Fail> {
+    let name = named(name);
+    let planned = plan_remove(small.alloc, &mut small.store, ROOT_ID, &name, cred, now);
+    Ok(planned.map_err(|_| "not planned")?)
 }
 
 // The call is refused so, and plans nothing.
@@ -128,19 +71,6 @@ fn answers(planned: &Planned, ino: u32, generation: u32) -> bool {
     matches!(&planned.reply, Reply::Handle { file, attr } if file.ino == ino && file.generation == generation && attr.fileid == ino)
 }
 
-// The sectors of up to four puts, in their order.
-fn sectors_put(planned: &Planned) -> [u32; 4] {
-    let mut sectors = [0; 4];
-    let mut count = 0;
-    for put in planned.plan.puts() {
-        if count < 4 {
-            sectors[count] = put.0;
-            count += 1;
-        }
-    }
-    sectors
-}
-
 // The i-number and the first byte of the name in a slot of the root's first sector.
 fn slot(bytes: &[u8; 512], index: usize) -> [u8; 2] {
     if index >= 32 {
@@ -149,18 +79,13 @@ fn slot(bytes: &[u8; 512], index: usize) -> [u8; 2] {
     [bytes[16 * index], bytes[16 * index + 2]]
 }
 
-// When an inode was read, written and changed.
-fn times(inode: &Inode) -> [u32; 3] {
-    [inode.atime, inode.mtime, inode.ctime]
-}
-
 #[test]
 fn a_last_name_is_taken_away_with_its_file(rt: HostRuntime) -> Result<(), Fail> {
-    let mut small = Small::new(rt.alloc(), FRESH)?;
-    let removed = small.remove(b"f", &superuser(), 2000)?;
+    let mut small = volume(rt.alloc(), FRESH)?;
+    let removed = remove(&mut small, b"f", &user(0), 2000)?;
     assert!(rt; matches!(removed.reply, Reply::Done) && removed.freed.inode == Some(3));
-    assert!(rt; sectors_put(&removed) == [4, 2, 0, 0] && removed.freed.blocks.len() == 2);
-    small.run(&removed)?;
+    assert!(rt; sectors_put(&removed.plan) == [4, 2, 0, 0] && removed.freed.blocks.len() == 2);
+    run(&mut small, &removed)?;
     assert!(rt; small.sets.blocks.has(5) && small.sets.blocks.has(6) && small.sets.inodes.has(3));
     let slots = small.store.sector(4);
     assert!(rt; slot(&slots, 1) == [2, b'.'] && slot(&slots, 2) == [0, 0]);
@@ -174,12 +99,12 @@ fn a_last_name_is_taken_away_with_its_file(rt: HostRuntime) -> Result<(), Fail> 
 
 #[test]
 fn a_file_is_made_anew(rt: HostRuntime) -> Result<(), Fail> {
-    let mut small = Small::new(rt.alloc(), FRESH)?;
-    let removed = small.remove(b"f", &superuser(), 2000)?;
-    small.run(&removed)?;
-    let made = small.create(b"g", &NOTHING, 3000)?;
-    assert!(rt; answers(&made, 3, 2) && sectors_put(&made) == [2, 4, 2, 0]);
-    small.run(&made)?;
+    let mut small = volume(rt.alloc(), FRESH)?;
+    let removed = remove(&mut small, b"f", &user(0), 2000)?;
+    run(&mut small, &removed)?;
+    let made = create(&mut small, b"g", &NOTHING, 3000)?;
+    assert!(rt; answers(&made, 3, 2) && sectors_put(&made.plan) == [2, 4, 2, 0]);
+    run(&mut small, &made)?;
     assert!(rt; small.sets.blocks.count() == 59 && small.sets.inodes.count() == 13);
     assert!(rt; slot(&small.store.sector(4), 2) == [3, b'g']);
     let file = small.inode(3);
@@ -192,33 +117,33 @@ fn a_file_is_made_anew(rt: HostRuntime) -> Result<(), Fail> {
 
 #[test]
 fn a_number_of_the_last_generation_is_never_used_again(rt: HostRuntime) -> Result<(), Fail> {
-    let mut small = Small::new(rt.alloc(), FRESH)?;
+    let mut small = volume(rt.alloc(), FRESH)?;
     let last = Inode {
         generation: 4_294_967_295,
         ..small.inode(3)
     };
     small.set_inode(3, &last)?;
-    let removed = small.remove(b"f", &superuser(), 2000)?;
+    let removed = remove(&mut small, b"f", &user(0), 2000)?;
     assert!(rt; removed.freed.inode.is_none() && removed.freed.blocks.len() == 2);
-    small.run(&removed)?;
+    run(&mut small, &removed)?;
     assert!(rt; small.inode(3).generation == 4_294_967_295);
-    let made = small.create(b"f", &NOTHING, 3000)?;
+    let made = create(&mut small, b"f", &NOTHING, 3000)?;
     assert!(rt; answers(&made, 4, 1));
     Ok(())
 }
 
 #[test]
 fn a_file_with_another_name_stays(rt: HostRuntime) -> Result<(), Fail> {
-    let mut small = Small::new(rt.alloc(), FRESH)?;
+    let mut small = volume(rt.alloc(), FRESH)?;
     let linked = Inode {
         nlink: 2,
         ..small.inode(3)
     };
     small.set_inode(3, &linked)?;
-    let removed = small.remove(b"f", &superuser(), 2000)?;
+    let removed = remove(&mut small, b"f", &user(0), 2000)?;
     assert!(rt; matches!(removed.reply, Reply::Done) && removed.freed.inode.is_none());
     assert!(rt; removed.freed.blocks.len() == 0);
-    small.run(&removed)?;
+    run(&mut small, &removed)?;
     let left = small.inode(3);
     assert!(rt; left.mode == 0o100_644 && left.nlink == 1 && left.size == 1024);
     assert!(rt; left.generation == 1 && times(&left) == [1000, 1000, 2000]);
@@ -227,7 +152,7 @@ fn a_file_with_another_name_stays(rt: HostRuntime) -> Result<(), Fail> {
 
 #[test]
 fn a_last_name_frees_the_block_of_addresses(rt: HostRuntime) -> Result<(), Fail> {
-    let mut small = Small::new(rt.alloc(), FRESH)?;
+    let mut small = volume(rt.alloc(), FRESH)?;
     let mut listing = [0; 512];
     listing[4] = 20;
     small.set(19, &listing)?;
@@ -238,8 +163,8 @@ fn a_last_name_frees_the_block_of_addresses(rt: HostRuntime) -> Result<(), Fail>
     };
     small.set_inode(3, &long)?;
     small.sets = Sets::new(small.alloc, 64, 17)?;
-    let removed = small.remove(b"f", &superuser(), 2000)?;
-    small.run(&removed)?;
+    let removed = remove(&mut small, b"f", &user(0), 2000)?;
+    run(&mut small, &removed)?;
     assert!(rt; small.sets.blocks.count() == 4 && removed.freed.blocks.len() == 4);
     assert!(rt; small.sets.blocks.has(5) && small.sets.blocks.has(6));
     assert!(rt; small.sets.blocks.has(19) && small.sets.blocks.has(20));
@@ -248,19 +173,8 @@ fn a_last_name_frees_the_block_of_addresses(rt: HostRuntime) -> Result<(), Fail>
 
 // The volume whose root has 32 slots, all used but one of this number.
 fn full(alloc: Global, empty: u32) -> Result<Small, Fail> {
-    let mut small = Small::new(alloc, FRESH)?;
-    let mut bytes = small.store.sector(4);
-    for index in 3..32 {
-        if index != empty {
-            bytes = with_slot(&bytes, index, &slot_of(3, b"used"));
-        }
-    }
-    small.set(4, &bytes)?;
-    let root = Inode {
-        size: 512,
-        ..small.inode(2)
-    };
-    small.set_inode(2, &root)?;
+    let mut small = volume(alloc, FRESH)?;
+    small.fill(32, empty)?;
     Ok(small)
 }
 
@@ -269,12 +183,12 @@ fn a_name_in_a_full_directory_takes_a_block(rt: HostRuntime) -> Result<(), Fail>
     let mut small = full(rt.alloc(), 32)?;
     small.sets = Sets::new(small.alloc, 64, 17)?;
     small.sets.inodes.give(4);
-    let none = small.create(b"new", &NOTHING, 2000)?;
+    let none = create(&mut small, b"new", &NOTHING, 2000)?;
     assert!(rt; is_refused(&none, Stat::Nospc) && small.sets.inodes.count() == 1);
     small.sets.blocks.give(40);
-    let made = small.create(b"new", &NOTHING, 2000)?;
-    assert!(rt; answers(&made, 4, 1) && sectors_put(&made) == [2, 40, 2, 0]);
-    small.run(&made)?;
+    let made = create(&mut small, b"new", &NOTHING, 2000)?;
+    assert!(rt; answers(&made, 4, 1) && sectors_put(&made.plan) == [2, 40, 2, 0]);
+    run(&mut small, &made)?;
     assert!(rt; small.sets.blocks.count() == 0 && small.sets.inodes.count() == 0);
     let slots = small.store.sector(40);
     assert!(rt; slot(&slots, 0) == [4, b'n'] && slot(&slots, 1) == [0, 0]);
@@ -287,9 +201,9 @@ fn a_name_in_a_full_directory_takes_a_block(rt: HostRuntime) -> Result<(), Fail>
 #[test]
 fn a_name_takes_the_first_empty_slot(rt: HostRuntime) -> Result<(), Fail> {
     let mut small = full(rt.alloc(), 17)?;
-    let made = small.create(b"fourteen bytes", &NOTHING, 2000)?;
-    assert!(rt; answers(&made, 4, 1) && sectors_put(&made) == [2, 4, 2, 0]);
-    small.run(&made)?;
+    let made = create(&mut small, b"fourteen bytes", &NOTHING, 2000)?;
+    assert!(rt; answers(&made, 4, 1) && sectors_put(&made.plan) == [2, 4, 2, 0]);
+    run(&mut small, &made)?;
     let slots = small.store.sector(4);
     assert!(rt;
         slot(&slots, 17) == [4, b'f'] && slots[287] == b's' && slot(&slots, 18) == [3, b'u']
@@ -300,19 +214,19 @@ fn a_name_takes_the_first_empty_slot(rt: HostRuntime) -> Result<(), Fail> {
 
 #[test]
 fn a_refused_call_plans_nothing(rt: HostRuntime) -> Result<(), Fail> {
-    let mut small = Small::new(rt.alloc(), FRESH)?;
+    let mut small = volume(rt.alloc(), FRESH)?;
     for (name, status) in [
         (b"..".as_slice(), Stat::Acces),
         (b"fifteen bytes..".as_slice(), Stat::Nametoolong),
     ] {
-        let made = small.create(name, &NOTHING, 2000)?;
+        let made = create(&mut small, name, &NOTHING, 2000)?;
         assert!(rt; is_refused(&made, status));
-        let removed = small.remove(name, &caller(), 2000)?;
+        let removed = remove(&mut small, name, &user(100), 2000)?;
         assert!(rt; is_refused(&removed, status));
     }
-    let absent = small.remove(b"g", &caller(), 2000)?;
+    let absent = remove(&mut small, b"g", &user(100), 2000)?;
     assert!(rt; is_refused(&absent, Stat::Noent));
-    let denied = small.remove(b"f", &caller(), 2000)?;
+    let denied = remove(&mut small, b"f", &user(100), 2000)?;
     assert!(rt; is_refused(&denied, Stat::Acces));
     Ok(())
 }
@@ -323,25 +237,25 @@ fn a_read_only_volume_refuses_both(rt: HostRuntime) -> Result<(), Fail> {
         read_only: 1,
         ..FRESH
     };
-    let mut small = Small::new(rt.alloc(), shape)?;
-    let made = small.create(b"..", &NOTHING, 2000)?;
+    let mut small = volume(rt.alloc(), shape)?;
+    let made = create(&mut small, b"..", &NOTHING, 2000)?;
     assert!(rt; is_refused(&made, Stat::Rofs));
-    let removed = small.remove(b"f", &superuser(), 2000)?;
+    let removed = remove(&mut small, b"f", &user(0), 2000)?;
     assert!(rt; is_refused(&removed, Stat::Rofs));
     Ok(())
 }
 
 #[test]
 fn a_name_that_is_there_gets_a_size(rt: HostRuntime) -> Result<(), Fail> {
-    let mut small = Small::new(rt.alloc(), FRESH)?;
+    let mut small = volume(rt.alloc(), FRESH)?;
     let wanted = Sattr {
         size: Some(512),
         ..NOTHING
     };
-    let shorter = small.create(b"f", &wanted, 2000)?;
-    assert!(rt; answers(&shorter, 3, 1) && sectors_put(&shorter) == [2, 0, 0, 0]);
+    let shorter = create(&mut small, b"f", &wanted, 2000)?;
+    assert!(rt; answers(&shorter, 3, 1) && sectors_put(&shorter.plan) == [2, 0, 0, 0]);
     assert!(rt; shorter.freed.blocks.len() == 1 && shorter.freed.inode.is_none());
-    small.run(&shorter)?;
+    run(&mut small, &shorter)?;
     assert!(rt; small.sets.blocks.has(6) && small.sets.inodes.count() == 13);
     let file = small.inode(3);
     assert!(rt; file.size == 512 && file.direct == [5, 0, 0, 0, 0, 0, 0, 0, 0, 0]);

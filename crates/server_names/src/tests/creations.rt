@@ -1,10 +1,10 @@
 //! CREATE (RFC 1094 2.2.10), through datagrams.
 
-use crate::tests::asking::{
+use server_runs::asking::{
     CREATE, F, FILE, FILE_MADE, FOURTH, FOURTH_MADE, G, GETATTR, LOOKUP, OLD_ROOT, REMOVE, ROOT,
     ROOT_CHANGED, ROOT_MADE, Row, STATFS, SUPERUSER, UNSET, answered,
 };
-use crate::tests::disks::{full_disk, nested_disk};
+use server_runs::disks::{full_disk, nested_disk};
 use server_runs::volumes::{has_files, is_stopped, is_volume, rig, rig_with};
 use server_runs::worked::CREDENTIAL;
 use std::test::Fail;

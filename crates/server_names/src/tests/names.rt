@@ -1,6 +1,6 @@
 //! LOOKUP and STATFS, through datagrams.
 
-use crate::tests::asking::{F, FILE, FILE_MADE, G, LOOKUP, OLD_ROOT, ROOT, Row, STATFS, answered};
+use server_runs::asking::{F, FILE, FILE_MADE, G, LOOKUP, OLD_ROOT, ROOT, Row, STATFS, answered};
 use server_runs::volumes::{is_stopped, is_volume, rig};
 use server_runs::worked::CREDENTIAL;
 use std::test::Fail;

@@ -1,10 +1,10 @@
 //! REMOVE (RFC 1094 2.2.11), through datagrams, and what is made after it.
 
-use crate::tests::asking::{
+use server_runs::asking::{
     CREATE, F, FILE, FILE_MADE, FOURTH, FOURTH_MADE, G, GETATTR, LOOKUP, OLD_ROOT, REMOVE, ROOT,
     ROOT_CHANGED, Row, STATFS, SUPERUSER, UNSET, answered,
 };
-use crate::tests::disks::{aged_disk, linked_disk, long_disk, nested_disk};
+use server_runs::disks::{aged_disk, linked_disk, long_disk, nested_disk};
 use server_runs::volumes::{has_chain, has_files, is_stopped, is_volume, rig, rig_with};
 use server_runs::worked::CREDENTIAL;
 use std::test::Fail;

@@ -91,7 +91,7 @@ const ROWS: [Row; 23] = [
     (&["a:"], ALL, 64, &[USAGE]),
     (&[":b"], ALL, 64, &[USAGE]),
     (&["d", "--down", "--down"], ALL, 64, &[USAGE]),
-    (&["d", "--accept-loss", "--down"], ALL, 64, &[USAGE]),
+    (&["d", "d"], ALL, 64, &[USAGE]),
     (&["d", "--turns", "0"], ALL, 64, &[USAGE]),
     (&["d", "--turns", "1000000001"], ALL, 64, &[USAGE]),
     (&["d", "--turns"], ALL, 64, &[USAGE]),

@@ -1,7 +1,5 @@
 //! Files that grow: batches of writes, gaps, full volumes, and writes that a device cuts off.
 
-ghost use Rattle.std.specs.Prelude.{◌≡◌, true, IfOk};
-ghost use Rattle.served_calls.specs.Served.{is_served};
 ghost use Rattle.v7_layout.specs.Written.{AddressesFit};
 ghost use Rattle.volume.specs.Rests.{Rests};
 

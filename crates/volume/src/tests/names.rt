@@ -1,7 +1,5 @@
 //! Names that are made and taken away: a CREATE and a REMOVE in the root of the test volume.
 
-ghost use Rattle.std.specs.Prelude.{◌≡◌, true};
-ghost use Rattle.served_calls.specs.Served.{is_served};
 ghost use Rattle.volume.specs.Rests.{Rests};
 
 use super::{FILE, opened, store};
@@ -18,7 +16,6 @@ const ROOT: FileId = FileId {
 
 // A call of the superuser at second 2000.
 fn asked(volume: &mut Volume<Memory>, call: &Call) -> Outcome
-    requires row { is_served call.now ≡ true }
     requires rests { Rests ⟦<Memory as Stable>⟧ volume.old }
     ensures { Rests ⟦<Memory as Stable>⟧ volume.new }
 {

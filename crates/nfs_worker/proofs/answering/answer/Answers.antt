@@ -9,7 +9,7 @@ use Rattle.std.specs.Prelude.{slice_set}
 use Rattle.nfs_worker.specs.Turns.{place_of}
 use Rattle.nfs_worker.specs.Volumes.{OneAlone}
 use Rattle.nfs_worker.proofs.Accounts.{grew_none}
-use Rattle.nfs_worker.proofs.Opens.{has_row_of, place_within}
+use Rattle.nfs_worker.proofs.Opens.{place_within}
 use Rattle.nfs_worker.proofs.Places.{alone_still, all_at}
 use Rattle.nfs_worker.proofs.Resting.{stays_so}
 use Rattle.nfs_worker.proofs.Turns.{untended_same}
@@ -37,9 +37,6 @@ react-requires-clause-puts g c =
     let puts = c.requires.desk.puts in
     let below = place_within c.args.bytes.now _ c.in-Ok.datagram c.in-Ok.ensures.ok (let some = c.requires.desk.some in omega (arith, some, long)) in
     omega (arith, place, below, long, puts)
-
-pub react-requires-clause-row : goal.react-requires-clause-row
-react-requires-clause-row g c = has_row_of c.args.bytes.now _ c.in-Ok.datagram c.in-Ok.ensures.ok
 
 pub returns-in-Ok : goal.returns-in-Ok
 returns-in-Ok g c =

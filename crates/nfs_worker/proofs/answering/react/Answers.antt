@@ -2,7 +2,6 @@ use Rattle.std.proofs.Common.{◌≡◌, ℕ, List, slice_index_or, refl, sym, a
 use Rattle.datagrams.specs.declared.datagram.Datagram.{Datagram as Meaning}
 use Rattle.datagrams.specs.declared.datagram.Datagram.TheVariants.{Asks}
 use Rattle.volume.specs.Mounted.{store_of}
-use Rattle.nfs_worker.specs.Answers.{HasRow}
 use Rattle.std.specs.Prelude.{slice_index}
 use Rattle.nfs_worker.specs.Desk.{Tells, change_of, status_reply}
 use Rattle.nfs_worker.specs.Turns.{IsAnswered, IsHalt, place_of}
@@ -122,9 +121,6 @@ returns-in-Halt g c =
       mine = tt;
       timed = tt;
     }
-
-pub serve_call-requires-clause-row : goal.serve_call-requires-clause-row
-serve_call-requires-clause-row g c = subst HasRow c.in-Asks.is c.requires.row
 
 pub returns-in-NoMemory : goal.returns-in-NoMemory
 returns-in-NoMemory g c = record {

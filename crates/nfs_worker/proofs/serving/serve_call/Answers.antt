@@ -23,7 +23,7 @@ returns-in-Bytes-clause-served g c =
     let old = c.args.volume.now in
     let new = c.handle.new.volume in
     let item : Item = record { xid = c.args.xid; from = c.args.from; call = c.args.call.now; cred = c.args.cred.now } in
-    served_bytes s g.met.S.Stable.clocked c.args.at (store_of old) (store_of new) (is_hurt old) (is_hurt new) c.args.number c.args.now item c.requires.row c.in-Bytes.ensures.rest.weak (λ told. c.in-Bytes.ensures.opens)
+    served_bytes s g.met.S.Stable.clocked c.args.at (store_of old) (store_of new) (is_hurt old) (is_hurt new) c.args.number c.args.now item c.in-Bytes.ensures.rest.weak (λ told. c.in-Bytes.ensures.opens)
     _ _ refl c.in-Bytes.ensures.handled
 
 pub returns-clause-served : goal.returns-clause-served
@@ -32,7 +32,7 @@ returns-clause-served g c =
     let old = c.args.volume.now in
     let new = c.handle.new.volume in
     let item : Item = record { xid = c.args.xid; from = c.args.from; call = c.args.call.now; cred = c.args.cred.now } in
-    served_none s g.met.S.Stable.clocked c.args.at (store_of old) (store_of new) (is_hurt old) (is_hurt new) c.args.number c.args.now item c.requires.row c.in-NoMemory.ensures.rest.weak (λ told. c.in-NoMemory.ensures.opens)
+    served_none s g.met.S.Stable.clocked c.args.at (store_of old) (store_of new) (is_hurt old) (is_hurt new) c.args.number c.args.now item c.in-NoMemory.ensures.rest.weak (λ told. c.in-NoMemory.ensures.opens)
     _ _ c.in-NoMemory.ensures.handled
 
 pub returns-in-Bytes-clause-rest : goal.returns-in-Bytes-clause-rest

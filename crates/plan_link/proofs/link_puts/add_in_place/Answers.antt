@@ -1,4 +1,4 @@
-use Rattle.std.proofs.Common.{◌≡◌, ◌<◌, ◌+◌, ◌++◌, [], ◌∷◌, ap, sym, ◌∙◌, subst, true}
+use Rattle.std.proofs.Common.{◌≡◌, ◌<◌, ◌+◌, ◌++◌, [], ◌∷◌, ap, sym, ◌∙◌, subst, true, rules}
 use Rattle.stable.specs.Puts.{put_all, with_put, Reserved}
 use Rattle.v7_map.specs.Image.{is_inode, inode_at, inode_sector}
 use Rattle.v7_map.specs.Plan.{PutsInode}
@@ -22,11 +22,16 @@ returns-clause-planned g c = λ tells strong name cred n d links inside stands.
     (ap (λ (r : Reserved). r.puts) c.in_ok-_slot.ensures.added) (c.in_ok-_slot.ensures.put tells)
     (ap (λ (r : Reserved). r.puts) c.in_ok-_times.ensures.added) (c.in_ok-_times.ensures.put tells)
 
-pub returns-clause-fits : goal.returns-clause-fits
-returns-clause-fits g c =
-    let S = g.S.Stable in
-    let link = c.args.link.now in
-    let l1 = ap (λ (r : Reserved). r.puts) c.in_ok-_node.ensures.added ∙ ap (λ l. with_put l (inode_sector link.file.ino, c.in_ok-_node._node)) c.requires.empty in
-    let l2 = ap (λ (r : Reserved). r.puts) c.in_ok-_slot.ensures.added ∙ ap (λ l. l ++ (link.spot.sector, c.in_ok-_slot._slot) ∷ []) l1 in
-    let l3 = ap (λ (r : Reserved). r.puts) c.in_ok-_times.ensures.added ∙ ap (λ l. with_put l (inode_sector link.spot.directory.ino, c.in_ok-_times._times)) l2 in
-    subst (CanBePut (S.sector_count c.args.store.now) 3) (sym l3) (fits-in_place (S.sector_count c.args.store.now) link.file.ino (entry_of link) c.requires.within c.in_ok-_node._node c.in_ok-_slot._slot c.in_ok-_times._times)
+pub returns-clause-built : goal.returns-clause-built
+returns-clause-built g c = record {
+  fits =
+      let S = g.S.Stable in
+      let link = c.args.link.now in
+      let l1 = ap (λ (r : Reserved). r.puts) c.in_ok-_node.ensures.added ∙ ap (λ l. with_put l (inode_sector link.file.ino, c.in_ok-_node._node)) c.requires.empty in
+      let l2 = ap (λ (r : Reserved). r.puts) c.in_ok-_slot.ensures.added ∙ ap (λ l. l ++ (link.spot.sector, c.in_ok-_slot._slot) ∷ []) l1 in
+      let l3 = ap (λ (r : Reserved). r.puts) c.in_ok-_times.ensures.added ∙ ap (λ l. with_put l (inode_sector link.spot.directory.ino, c.in_ok-_times._times)) l2 in
+      subst (CanBePut (S.sector_count c.args.store.now) 3) (sym l3) (fits-in_place (S.sector_count c.args.store.now) link.file.ino (entry_of link) c.requires.within c.in_ok-_node._node c.in_ok-_slot._slot c.in_ok-_times._times);
+  room = search rules;
+  cause = search rules;
+  looked = search rules;
+}

@@ -1,4 +1,4 @@
-use Rattle.std.proofs.Common.{◌≡◌, ◌/◌, ℕ, List, true, refl, sym, ap, subst, ◌∙◌, Option, Some, None, IsSomeAnd}
+use Rattle.std.proofs.Common.{◌≡◌, ◌/◌, ℕ, List, true, refl, sym, ap, subst, ◌∙◌, Option, Some, None, IsSomeAnd, rules}
 use Rattle.files_model.specs.declared.reply.Reply.TheVariants as reply
 use Rattle.stable.specs.Store.{Image}
 use Rattle.v7_map.specs.Frame.{frame}
@@ -73,4 +73,4 @@ returns-clause-planned g c = λ tells strong are at_file at here.
     record { plan = c.add_at_end.new.plan; reply = reply.Done; freed = c.none_freed.result } c.take_new.ensures refl made refl c.none_freed.ensures.blocks c.none_freed.ensures.inode
 
 pub returns-clause-takes : goal.returns-clause-takes
-returns-clause-takes g c = blocks-taken_from c.args.sets.now (new_list c.in-Some-2.laid.new) c.take_new.new.blocks c.take_new.ensures
+returns-clause-takes g c = record { takes = blocks-taken_from c.args.sets.now (new_list c.in-Some-2.laid.new) c.take_new.new.blocks c.take_new.ensures; kept = search rules }

@@ -1,4 +1,4 @@
-use Rattle.std.proofs.Common.{◌++◌, [], ◌∷◌, ap, sym, ◌∙◌, subst}
+use Rattle.std.proofs.Common.{◌++◌, [], ◌∷◌, ap, sym, ◌∙◌, subst, rules}
 use Rattle.stable.specs.Puts.{with_put, Reserved}
 use Rattle.v7_map.specs.Image.{inode_sector}
 use Rattle.plan_name.specs.Creating.{CanBePut, map_puts}
@@ -20,13 +20,18 @@ returns-clause-planned g c = λ tells strong name wanted cred d target taken mak
     (ap (λ (r : Reserved). r.puts) c.add_map.ensures)
     (ap (λ (r : Reserved). r.puts) c.in_ok-_parent.ensures.added) (c.in_ok-_parent.ensures.put tells)
 
-pub returns-clause-fits : goal.returns-clause-fits
-returns-clause-fits g c =
-    let S = g.S.Stable in let longer = c.args.longer.now in
-    let l0 = ap (λ (r : Reserved). r.puts) c.add.ensures ∙ ap (λ l. l ++ (c.args.new.now.block, c.dots_sector-dots.result) ∷ []) c.requires.plan.0 in
-    let l1 = ap (λ (r : Reserved). r.puts) c.in_ok-_inode.ensures.added ∙ ap (λ l. with_put l (inode_sector c.args.new.now.ino, c.in_ok-_inode._inode)) l0 in
-    let l2 = ap (λ (r : Reserved). r.puts) c.in_ok-_slot.ensures.added ∙ ap (λ l. l ++ (c.args.spot.now.sector, c.in_ok-_slot._slot) ∷ []) l1 in
-    let l3 = ap (λ (r : Reserved). r.puts) c.add_map.ensures ∙ ap (λ l. l ++ map_puts longer.map) l2 in
-    let l4 = ap (λ (r : Reserved). r.puts) c.in_ok-_parent.ensures.added ∙ ap (λ l. with_put l (inode_sector c.args.spot.now.directory.ino, c.in_ok-_parent._parent)) l3 in
-    subst (CanBePut (S.sector_count c.args.store.now) 5) (sym l4) (fits-at_end (S.sector_count c.args.store.now) c.args.new.now c.args.spot.now c.requires.within.0 c.requires.within.1
-    c.dots_sector-dots.result c.in_ok-_inode._inode c.in_ok-_slot._slot c.in_ok-_parent._parent longer c.requires.longer.0)
+pub returns-clause-built : goal.returns-clause-built
+returns-clause-built g c = record {
+  fits =
+      let S = g.S.Stable in let longer = c.args.longer.now in
+      let l0 = ap (λ (r : Reserved). r.puts) c.add.ensures ∙ ap (λ l. l ++ (c.args.new.now.block, c.dots_sector-dots.result) ∷ []) c.requires.plan.0 in
+      let l1 = ap (λ (r : Reserved). r.puts) c.in_ok-_inode.ensures.added ∙ ap (λ l. with_put l (inode_sector c.args.new.now.ino, c.in_ok-_inode._inode)) l0 in
+      let l2 = ap (λ (r : Reserved). r.puts) c.in_ok-_slot.ensures.added ∙ ap (λ l. l ++ (c.args.spot.now.sector, c.in_ok-_slot._slot) ∷ []) l1 in
+      let l3 = ap (λ (r : Reserved). r.puts) c.add_map.ensures ∙ ap (λ l. l ++ map_puts longer.map) l2 in
+      let l4 = ap (λ (r : Reserved). r.puts) c.in_ok-_parent.ensures.added ∙ ap (λ l. with_put l (inode_sector c.args.spot.now.directory.ino, c.in_ok-_parent._parent)) l3 in
+      subst (CanBePut (S.sector_count c.args.store.now) 5) (sym l4) (fits-at_end (S.sector_count c.args.store.now) c.args.new.now c.args.spot.now c.requires.within.0 c.requires.within.1
+      c.dots_sector-dots.result c.in_ok-_inode._inode c.in_ok-_slot._slot c.in_ok-_parent._parent longer c.requires.longer.0);
+  room = search rules;
+  cause = search rules;
+  looked = search rules;
+}

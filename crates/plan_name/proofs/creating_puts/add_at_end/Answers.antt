@@ -1,4 +1,4 @@
-use Rattle.std.proofs.Common.{◌≡◌, ◌++◌, [], ◌∷◌, ap, sym, ◌∙◌, subst, true}
+use Rattle.std.proofs.Common.{◌≡◌, ◌++◌, [], ◌∷◌, ap, sym, ◌∙◌, subst, true, rules}
 use Rattle.stable.specs.Puts.{put_all, with_put, Reserved}
 use Rattle.v7_map.specs.Image.{is_inode, inode_sector}
 use Rattle.v7_map.specs.Plan.{PutsInode}
@@ -20,11 +20,16 @@ returns-clause-planned g c = λ tells strong asked name d m target new makes end
     (ap (λ (r : Reserved). r.puts) c.add_map.ensures)
     (ap (λ (r : Reserved). r.puts) c.in_ok-_longer.ensures.added) (c.in_ok-_longer.ensures.put tells)
 
-pub returns-clause-fits : goal.returns-clause-fits
-returns-clause-fits g c =
-    let S = g.S.Stable in let longer = c.args.longer.now in
-    let l1 = ap (λ (r : Reserved). r.puts) c.in_ok-_inode.ensures.added ∙ ap (λ l. with_put l (inode_sector c.args.ino, c.in_ok-_inode._inode)) c.requires.empty in
-    let l2 = ap (λ (r : Reserved). r.puts) c.in_ok-_slot.ensures.added ∙ ap (λ l. l ++ (c.args.entry.now.sector, c.in_ok-_slot._slot) ∷ []) l1 in
-    let l3 = ap (λ (r : Reserved). r.puts) c.add_map.ensures ∙ ap (λ l. l ++ map_puts longer.map) l2 in
-    let l4 = ap (λ (r : Reserved). r.puts) c.in_ok-_longer.ensures.added ∙ ap (λ l. with_put l (inode_sector c.args.entry.now.directory, c.in_ok-_longer._longer)) l3 in
-    subst (CanBePut (S.sector_count c.args.store.now) 4) (sym l4) (fits-at_end (S.sector_count c.args.store.now) c.args.ino c.args.entry.now c.requires.within.0 c.in_ok-_inode._inode c.in_ok-_slot._slot c.in_ok-_longer._longer longer c.requires.within.1)
+pub returns-clause-built : goal.returns-clause-built
+returns-clause-built g c = record {
+  fits =
+      let S = g.S.Stable in let longer = c.args.longer.now in
+      let l1 = ap (λ (r : Reserved). r.puts) c.in_ok-_inode.ensures.added ∙ ap (λ l. with_put l (inode_sector c.args.ino, c.in_ok-_inode._inode)) c.requires.empty in
+      let l2 = ap (λ (r : Reserved). r.puts) c.in_ok-_slot.ensures.added ∙ ap (λ l. l ++ (c.args.entry.now.sector, c.in_ok-_slot._slot) ∷ []) l1 in
+      let l3 = ap (λ (r : Reserved). r.puts) c.add_map.ensures ∙ ap (λ l. l ++ map_puts longer.map) l2 in
+      let l4 = ap (λ (r : Reserved). r.puts) c.in_ok-_longer.ensures.added ∙ ap (λ l. with_put l (inode_sector c.args.entry.now.directory, c.in_ok-_longer._longer)) l3 in
+      subst (CanBePut (S.sector_count c.args.store.now) 4) (sym l4) (fits-at_end (S.sector_count c.args.store.now) c.args.ino c.args.entry.now c.requires.within.0 c.in_ok-_inode._inode c.in_ok-_slot._slot c.in_ok-_longer._longer longer c.requires.within.1);
+  room = search rules;
+  cause = search rules;
+  looked = search rules;
+}

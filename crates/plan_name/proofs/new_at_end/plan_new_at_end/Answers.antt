@@ -1,4 +1,4 @@
-use Rattle.std.proofs.Common.{◌≡◌, ℕ, ◌/◌, List, [], sym, ap, subst, ◌∙◌, refl, Option, IsSomeAnd}
+use Rattle.std.proofs.Common.{◌≡◌, ℕ, ◌/◌, List, [], sym, ap, subst, ◌∙◌, refl, Option, IsSomeAnd, rules}
 use Rattle.files_model.specs.declared.call.Call.TheVariants.{Create}
 use Rattle.files_model.specs.Names.{new_file}
 use Rattle.stable.specs.Store.{Image}
@@ -64,4 +64,4 @@ returns-clause-planned g c = λ tells d told is free.
     c.none_freed.ensures.blocks c.none_freed.ensures.inode
 
 pub returns-clause-takes : goal.returns-clause-takes
-returns-clause-takes g c = taken-from c.args.sets.now (new_list c.in-Some.laid.new) c.in-Ok.number c.take_new.new.blocks c.take.new.self c.take_new.ensures c.take.ensures
+returns-clause-takes g c = record { takes = taken-from c.args.sets.now (new_list c.in-Some.laid.new) c.in-Ok.number c.take_new.new.blocks c.take.new.self c.take_new.ensures c.take.ensures; kept = search rules }

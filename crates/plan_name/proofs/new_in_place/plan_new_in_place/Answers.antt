@@ -1,4 +1,4 @@
-use Rattle.std.proofs.Common.{◌<◌, ℕ, List, [], length, sym, ap, subst, ◌∙◌, refl}
+use Rattle.std.proofs.Common.{◌<◌, ℕ, List, [], length, sym, ap, subst, ◌∙◌, refl, rules}
 use Rattle.files_model.specs.declared.call.Call.TheVariants.{Create}
 use Rattle.stable.specs.Store.{Image}
 use Rattle.v7_map.specs.Frame.{frame}
@@ -45,4 +45,4 @@ returns-clause-planned g c = λ tells d told free place stands.
     c.none_freed.ensures.blocks c.none_freed.ensures.inode
 
 pub returns-clause-takes : goal.returns-clause-takes
-returns-clause-takes g c = taken-from c.args.sets.now [] c.in-Ok.number c.args.sets.now.blocks c.take.new.self refl c.take.ensures
+returns-clause-takes g c = record { takes = taken-from c.args.sets.now [] c.in-Ok.number c.args.sets.now.blocks c.take.new.self refl c.take.ensures; kept = search rules }

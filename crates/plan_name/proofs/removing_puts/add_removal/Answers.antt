@@ -1,4 +1,4 @@
-use Rattle.std.proofs.Common.{◌++◌, [], ◌∷◌, ap, sym, ◌∙◌, subst, arith}
+use Rattle.std.proofs.Common.{◌++◌, [], ◌∷◌, ap, sym, ◌∙◌, subst, arith, rules}
 use Rattle.stable.specs.Puts.{put_all, with_put, Reserved}
 use Rattle.v7_map.specs.Image.{sector_at, inode_sector}
 use Rattle.v7_strokes.specs.Over.{slot_from}
@@ -35,22 +35,32 @@ returns-clause-planned g c = λ tells strong dir name cred d n takes.
     (ap (λ (r : Reserved). r.puts) c.in_ok-_node-2.ensures.added) (c.in_ok-_node-2.ensures.put tells)
     (ap (λ (r : Reserved). r.puts) c.in_ok-_times-2.ensures.added) (c.in_ok-_times-2.ensures.put tells)
 
-pub returns-then-taking-clause-fits : goal.returns-then-taking-clause-fits
-returns-then-taking-clause-fits g c =
-    let S = g.S.Stable in
-    let t = c.args.taking.now in
-    let l1 = ap (λ (r : Reserved). r.puts) c.in_ok-_slot.ensures.added ∙ ap (λ l. l ++ (t.sector, c.in_ok-_slot._slot) ∷ []) c.requires.empty in
-    let l2 = ap (λ (r : Reserved). r.puts) c.in_ok-_times.ensures.added ∙ ap (λ l. with_put l (inode_sector t.directory, c.in_ok-_times._times)) l1 in
-    let l3 = ap (λ (r : Reserved). r.puts) c.in_ok-_node.ensures.added ∙ ap (λ l. with_put l (inode_sector t.node, c.in_ok-_node._node)) l2 in
-    subst (CanBePut (S.sector_count c.args.store.now) 3) (sym l3) (fits-removal (S.sector_count c.args.store.now) t c.requires.within c.in_ok-_slot._slot (inode_sector t.directory, c.in_ok-_times._times) (inode_sector t.node, c.in_ok-_node._node)
-    (omega arith) c.requires.within.directory (omega arith) c.requires.within.node)
+pub returns-then-taking-clause-built : goal.returns-then-taking-clause-built
+returns-then-taking-clause-built g c = record {
+  fits =
+      let S = g.S.Stable in
+      let t = c.args.taking.now in
+      let l1 = ap (λ (r : Reserved). r.puts) c.in_ok-_slot.ensures.added ∙ ap (λ l. l ++ (t.sector, c.in_ok-_slot._slot) ∷ []) c.requires.empty in
+      let l2 = ap (λ (r : Reserved). r.puts) c.in_ok-_times.ensures.added ∙ ap (λ l. with_put l (inode_sector t.directory, c.in_ok-_times._times)) l1 in
+      let l3 = ap (λ (r : Reserved). r.puts) c.in_ok-_node.ensures.added ∙ ap (λ l. with_put l (inode_sector t.node, c.in_ok-_node._node)) l2 in
+      subst (CanBePut (S.sector_count c.args.store.now) 3) (sym l3) (fits-removal (S.sector_count c.args.store.now) t c.requires.within c.in_ok-_slot._slot (inode_sector t.directory, c.in_ok-_times._times) (inode_sector t.node, c.in_ok-_node._node)
+      (omega arith) c.requires.within.directory (omega arith) c.requires.within.node);
+  room = search rules;
+  cause = search rules;
+  looked = search rules;
+}
 
-pub returns-clause-fits : goal.returns-clause-fits
-returns-clause-fits g c =
-    let S = g.S.Stable in
-    let t = c.args.taking.now in
-    let l1 = ap (λ (r : Reserved). r.puts) c.in_ok-_slot.ensures.added ∙ ap (λ l. l ++ (t.sector, c.in_ok-_slot._slot) ∷ []) c.requires.empty in
-    let l2 = ap (λ (r : Reserved). r.puts) c.in_ok-_node-2.ensures.added ∙ ap (λ l. with_put l (inode_sector t.node, c.in_ok-_node-2._node)) l1 in
-    let l3 = ap (λ (r : Reserved). r.puts) c.in_ok-_times-2.ensures.added ∙ ap (λ l. with_put l (inode_sector t.directory, c.in_ok-_times-2._times)) l2 in
-    subst (CanBePut (S.sector_count c.args.store.now) 3) (sym l3) (fits-removal (S.sector_count c.args.store.now) t c.requires.within c.in_ok-_slot._slot (inode_sector t.node, c.in_ok-_node-2._node) (inode_sector t.directory, c.in_ok-_times-2._times)
-    (omega arith) c.requires.within.node (omega arith) c.requires.within.directory)
+pub returns-clause-built : goal.returns-clause-built
+returns-clause-built g c = record {
+  fits =
+      let S = g.S.Stable in
+      let t = c.args.taking.now in
+      let l1 = ap (λ (r : Reserved). r.puts) c.in_ok-_slot.ensures.added ∙ ap (λ l. l ++ (t.sector, c.in_ok-_slot._slot) ∷ []) c.requires.empty in
+      let l2 = ap (λ (r : Reserved). r.puts) c.in_ok-_node-2.ensures.added ∙ ap (λ l. with_put l (inode_sector t.node, c.in_ok-_node-2._node)) l1 in
+      let l3 = ap (λ (r : Reserved). r.puts) c.in_ok-_times-2.ensures.added ∙ ap (λ l. with_put l (inode_sector t.directory, c.in_ok-_times-2._times)) l2 in
+      subst (CanBePut (S.sector_count c.args.store.now) 3) (sym l3) (fits-removal (S.sector_count c.args.store.now) t c.requires.within c.in_ok-_slot._slot (inode_sector t.node, c.in_ok-_node-2._node) (inode_sector t.directory, c.in_ok-_times-2._times)
+      (omega arith) c.requires.within.node (omega arith) c.requires.within.directory);
+  room = search rules;
+  cause = search rules;
+  looked = search rules;
+}

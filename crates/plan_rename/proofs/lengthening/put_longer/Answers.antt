@@ -1,4 +1,4 @@
-use Rattle.std.proofs.Common.{◌≡◌, ℕ, ◌/◌, Bool, true, List, Option, refl, ap, sym, subst, ◌∙◌, arith, IsSomeAnd}
+use Rattle.std.proofs.Common.{◌≡◌, ℕ, ◌/◌, Bool, true, List, Option, refl, ap, sym, subst, ◌∙◌, arith, IsSomeAnd, rules}
 use Rattle.index_sets.specs.Free.{is_free}
 use Rattle.name_plans.proofs.CreatingSets.{taken-only}
 use Rattle.stable.specs.Puts.{Reserved}
@@ -38,15 +38,20 @@ returns-clause-planned g c = λ tells strong are call x.
 
 pub returns-clause-takes : goal.returns-clause-takes
 returns-clause-takes g c = record {
-  blocks = λ k h. taken-only (new_list c.in-Some.laid.new) c.args.sets.now.blocks k (subst (λ (free : List Bool). is_free free k ≡ true) c.take_new.ensures h);
-  numbers = refl;
+  takes = record {
+    blocks = λ k h. taken-only (new_list c.in-Some.laid.new) c.args.sets.now.blocks k (subst (λ (free : List Bool). is_free free k ≡ true) c.take_new.ensures h);
+    numbers = refl;
+  };
+  kept = search rules;
 }
 
-pub returns-clause-fits : goal.returns-clause-fits
-returns-clause-fits g c =
-    let S = g.S.Stable in
-    subst (CanBePut (S.sector_count c.args.store.now) 5) (sym (ap (λ (r : Reserved). r.puts) c.done.ensures.plan))
-    (subst (λ n. CanBePut n 5 c.add_longer_move.new.plan.puts) c.in_ok-laid.ensures.looked.sectors c.in_ok-add_longer_move.ensures.fits)
-
-pub returns-clause-room : goal.returns-clause-room
-returns-clause-room g c = let room = ap (λ (r : Reserved). r.room) c.done.ensures.plan ∙ c.in_ok-add_longer_move.ensures.room ∙ ap (λ (r : Reserved). r.room) c.in_ok-plan.ensures in omega arith
+pub returns-clause-shape : goal.returns-clause-shape
+returns-clause-shape g c = record {
+  fits =
+      subst (CanBePut (g.S.Stable.sector_count c.args.store.now) 5) (sym (ap (λ (r : Reserved). r.puts) c.done.ensures.plan))
+      (subst (λ n. CanBePut n 5 c.add_longer_move.new.plan.puts) c.in_ok-laid.ensures.looked.sectors c.in_ok-add_longer_move.ensures.built.fits);
+  form = search rules;
+  room = let room = ap (λ (r : Reserved). r.room) c.done.ensures.plan ∙ c.in_ok-add_longer_move.ensures.built.room ∙ ap (λ (r : Reserved). r.room) c.in_ok-plan.ensures in omega arith;
+  cause = search rules;
+  looked = search rules;
+}

@@ -1,4 +1,4 @@
-use Rattle.std.proofs.Common.{◌≡◌, ap, sym, subst, ◌∙◌, arith}
+use Rattle.std.proofs.Common.{◌≡◌, ap, sym, subst, ◌∙◌, arith, rules}
 use Rattle.stable.specs.Puts.{Reserved}
 use Rattle.stable.specs.Store.{Image}
 use Rattle.plan_name.specs.Creating.{CanBePut}
@@ -14,11 +14,13 @@ returns-clause-planned g c = λ tells strong call x left are.
     (subst (IsPlannedStaying image (asked_of call) c.args.now) (sym (ap (λ (r : Reserved). r.puts) said.plan)) (c.in_ok-add_move.ensures.planned tells strong call x))
     (moved-done image call c.args.now strong c.args.moved.now x) said.reply said.blocks said.inode
 
-pub returns-clause-fits : goal.returns-clause-fits
-returns-clause-fits g c =
-    let S = g.S.Stable in
-    subst (CanBePut (S.sector_count c.args.store.now) 5) (sym (ap (λ (r : Reserved). r.puts) c.done.ensures.plan))
-    (can-more (S.sector_count c.args.store.now) 4 5 c.add_move.new.plan.puts (omega arith) c.in_ok-add_move.ensures.fits)
-
-pub returns-clause-room : goal.returns-clause-room
-returns-clause-room g c = let room = ap (λ (r : Reserved). r.room) c.done.ensures.plan ∙ c.in_ok-add_move.ensures.room ∙ ap (λ (r : Reserved). r.room) c.in_ok-plan.ensures in omega arith
+pub returns-clause-shape : goal.returns-clause-shape
+returns-clause-shape g c = record {
+  fits =
+      subst (CanBePut (g.S.Stable.sector_count c.args.store.now) 5) (sym (ap (λ (r : Reserved). r.puts) c.done.ensures.plan))
+      (can-more (g.S.Stable.sector_count c.args.store.now) 4 5 c.add_move.new.plan.puts (omega arith) c.in_ok-add_move.ensures.built.fits);
+  form = search rules;
+  room = let room = ap (λ (r : Reserved). r.room) c.done.ensures.plan ∙ c.in_ok-add_move.ensures.built.room ∙ ap (λ (r : Reserved). r.room) c.in_ok-plan.ensures in omega arith;
+  cause = search rules;
+  looked = search rules;
+}

@@ -1,4 +1,4 @@
-use Rattle.std.proofs.Common.{◌≡◌, ap, sym, subst, ◌∙◌, arith}
+use Rattle.std.proofs.Common.{◌≡◌, ap, sym, subst, ◌∙◌, arith, rules}
 use Rattle.stable.specs.Puts.{Reserved}
 use Rattle.stable.specs.Store.{Image}
 use Rattle.plan_name.specs.Creating.{CanBePut}
@@ -14,11 +14,13 @@ returns-clause-planned g c = λ tells strong call x left are.
     (subst (IsPlannedStaying image (asked_of call) c.args.now) (sym (ap (λ (r : Reserved). r.puts) said.plan)) (c.in_ok-add_new_name.ensures.planned tells strong call x))
     (named-done image call c.args.now strong c.args.place.now c.args.slot.now x) said.reply said.blocks said.inode
 
-pub returns-clause-fits : goal.returns-clause-fits
-returns-clause-fits g c =
-    let S = g.S.Stable in
-    subst (CanBePut (S.sector_count c.args.store.now) 5) (sym (ap (λ (r : Reserved). r.puts) c.done.ensures.plan))
-    (can-more (S.sector_count c.args.store.now) 2 5 c.add_new_name.new.plan.puts (omega arith) c.in_ok-add_new_name.ensures.fits)
-
-pub returns-clause-room : goal.returns-clause-room
-returns-clause-room g c = let room = ap (λ (r : Reserved). r.room) c.done.ensures.plan ∙ c.in_ok-add_new_name.ensures.room ∙ ap (λ (r : Reserved). r.room) c.in_ok-plan.ensures in omega arith
+pub returns-clause-shape : goal.returns-clause-shape
+returns-clause-shape g c = record {
+  fits =
+      subst (CanBePut (g.S.Stable.sector_count c.args.store.now) 5) (sym (ap (λ (r : Reserved). r.puts) c.done.ensures.plan))
+      (can-more (g.S.Stable.sector_count c.args.store.now) 2 5 c.add_new_name.new.plan.puts (omega arith) c.in_ok-add_new_name.ensures.built.fits);
+  form = search rules;
+  room = let room = ap (λ (r : Reserved). r.room) c.done.ensures.plan ∙ c.in_ok-add_new_name.ensures.built.room ∙ ap (λ (r : Reserved). r.room) c.in_ok-plan.ensures in omega arith;
+  cause = search rules;
+  looked = search rules;
+}

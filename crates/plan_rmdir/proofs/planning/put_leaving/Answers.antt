@@ -1,4 +1,4 @@
-use Rattle.std.proofs.Common.{true, refl, ap, subst, ◌∙◌, arith}
+use Rattle.std.proofs.Common.{true, refl, ap, subst, ◌∙◌, arith, rules}
 use Rattle.files_model.specs.declared.reply.Reply.TheVariants as reply
 use Rattle.stable.specs.Puts.{Reserved}
 use Rattle.stable.specs.Store.{Image}
@@ -13,8 +13,14 @@ returns-clause-planned g c = λ tells strong dir name cred leaving left are.
     rmdir-planned image dir name cred c.args.now c.args.leaving.now c.args.inode.now left
     record { plan = c.add_leaving.new.plan; reply = reply.Done; freed = record { blocks = c.in_ok-blocks.blocks; inode = c.freed_number.result } } strong are leaving
     (c.in_ok-add_leaving.ensures.planned tells strong dir name cred leaving.parent leaving.node leaving.leaves)
-    (subst (λ (x : Image). Frees x c.args.inode.now true c.in_ok-blocks.blocks.items) c.in_ok-add_leaving.ensures.looked.image (c.in_ok-blocks.ensures.freed tells))
+    (subst (λ (x : Image). Frees x c.args.inode.now true c.in_ok-blocks.blocks.items) c.in_ok-add_leaving.ensures.built.looked.image (c.in_ok-blocks.ensures.freed tells))
     refl c.freed_number.ensures
 
-pub returns-clause-room : goal.returns-clause-room
-returns-clause-room g c = let room = c.in_ok-add_leaving.ensures.room ∙ ap (λ (r : Reserved). r.room) c.in_ok-plan.ensures in omega arith
+pub returns-clause-shape : goal.returns-clause-shape
+returns-clause-shape g c = record {
+  fits = search rules;
+  form = search rules;
+  room = let room = c.in_ok-add_leaving.ensures.built.room ∙ ap (λ (r : Reserved). r.room) c.in_ok-plan.ensures in omega arith;
+  cause = search rules;
+  looked = search rules;
+}

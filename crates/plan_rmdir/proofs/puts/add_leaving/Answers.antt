@@ -1,4 +1,4 @@
-use Rattle.std.proofs.Common.{◌++◌, [], ◌∷◌, ap, sym, ◌∙◌, subst, arith}
+use Rattle.std.proofs.Common.{◌++◌, [], ◌∷◌, ap, sym, ◌∙◌, subst, arith, rules}
 use Rattle.stable.specs.Puts.{put_all, with_put, Reserved}
 use Rattle.v7_map.specs.Image.{sector_at, inode_sector}
 use Rattle.v7_strokes.specs.Over.{slot_from}
@@ -35,22 +35,32 @@ returns-clause-planned g c = λ tells strong dir name cred d n leaves.
     (ap (λ (r : Reserved). r.puts) c.in_ok-_own-2.ensures.added) (c.in_ok-_own-2.ensures.put tells)
     (ap (λ (r : Reserved). r.puts) c.in_ok-_parent-2.ensures.added) (c.in_ok-_parent-2.ensures.put tells)
 
-pub returns-then-leaving-clause-fits : goal.returns-then-leaving-clause-fits
-returns-then-leaving-clause-fits g c =
-    let S = g.S.Stable in
-    let t = c.args.leaving.now in
-    let l1 = ap (λ (r : Reserved). r.puts) c.in_ok-_slot.ensures.added ∙ ap (λ l. l ++ (t.sector, c.in_ok-_slot._slot) ∷ []) c.requires.empty in
-    let l2 = ap (λ (r : Reserved). r.puts) c.in_ok-_parent.ensures.added ∙ ap (λ l. with_put l (inode_sector t.parent, c.in_ok-_parent._parent)) l1 in
-    let l3 = ap (λ (r : Reserved). r.puts) c.in_ok-_own.ensures.added ∙ ap (λ l. with_put l (inode_sector t.directory, c.in_ok-_own._own)) l2 in
-    subst (CanBePut (S.sector_count c.args.store.now) 3) (sym l3) (fits-leaving (S.sector_count c.args.store.now) t c.requires.within c.in_ok-_slot._slot (inode_sector t.parent, c.in_ok-_parent._parent) (inode_sector t.directory, c.in_ok-_own._own)
-    (omega arith) c.requires.within.parent (omega arith) c.requires.within.directory)
+pub returns-then-leaving-clause-built : goal.returns-then-leaving-clause-built
+returns-then-leaving-clause-built g c = record {
+  fits =
+      let S = g.S.Stable in
+      let t = c.args.leaving.now in
+      let l1 = ap (λ (r : Reserved). r.puts) c.in_ok-_slot.ensures.added ∙ ap (λ l. l ++ (t.sector, c.in_ok-_slot._slot) ∷ []) c.requires.empty in
+      let l2 = ap (λ (r : Reserved). r.puts) c.in_ok-_parent.ensures.added ∙ ap (λ l. with_put l (inode_sector t.parent, c.in_ok-_parent._parent)) l1 in
+      let l3 = ap (λ (r : Reserved). r.puts) c.in_ok-_own.ensures.added ∙ ap (λ l. with_put l (inode_sector t.directory, c.in_ok-_own._own)) l2 in
+      subst (CanBePut (S.sector_count c.args.store.now) 3) (sym l3) (fits-leaving (S.sector_count c.args.store.now) t c.requires.within c.in_ok-_slot._slot (inode_sector t.parent, c.in_ok-_parent._parent) (inode_sector t.directory, c.in_ok-_own._own)
+      (omega arith) c.requires.within.parent (omega arith) c.requires.within.directory);
+  room = search rules;
+  cause = search rules;
+  looked = search rules;
+}
 
-pub returns-clause-fits : goal.returns-clause-fits
-returns-clause-fits g c =
-    let S = g.S.Stable in
-    let t = c.args.leaving.now in
-    let l1 = ap (λ (r : Reserved). r.puts) c.in_ok-_slot.ensures.added ∙ ap (λ l. l ++ (t.sector, c.in_ok-_slot._slot) ∷ []) c.requires.empty in
-    let l2 = ap (λ (r : Reserved). r.puts) c.in_ok-_own-2.ensures.added ∙ ap (λ l. with_put l (inode_sector t.directory, c.in_ok-_own-2._own)) l1 in
-    let l3 = ap (λ (r : Reserved). r.puts) c.in_ok-_parent-2.ensures.added ∙ ap (λ l. with_put l (inode_sector t.parent, c.in_ok-_parent-2._parent)) l2 in
-    subst (CanBePut (S.sector_count c.args.store.now) 3) (sym l3) (fits-leaving (S.sector_count c.args.store.now) t c.requires.within c.in_ok-_slot._slot (inode_sector t.directory, c.in_ok-_own-2._own) (inode_sector t.parent, c.in_ok-_parent-2._parent)
-    (omega arith) c.requires.within.directory (omega arith) c.requires.within.parent)
+pub returns-clause-built : goal.returns-clause-built
+returns-clause-built g c = record {
+  fits =
+      let S = g.S.Stable in
+      let t = c.args.leaving.now in
+      let l1 = ap (λ (r : Reserved). r.puts) c.in_ok-_slot.ensures.added ∙ ap (λ l. l ++ (t.sector, c.in_ok-_slot._slot) ∷ []) c.requires.empty in
+      let l2 = ap (λ (r : Reserved). r.puts) c.in_ok-_own-2.ensures.added ∙ ap (λ l. with_put l (inode_sector t.directory, c.in_ok-_own-2._own)) l1 in
+      let l3 = ap (λ (r : Reserved). r.puts) c.in_ok-_parent-2.ensures.added ∙ ap (λ l. with_put l (inode_sector t.parent, c.in_ok-_parent-2._parent)) l2 in
+      subst (CanBePut (S.sector_count c.args.store.now) 3) (sym l3) (fits-leaving (S.sector_count c.args.store.now) t c.requires.within c.in_ok-_slot._slot (inode_sector t.directory, c.in_ok-_own-2._own) (inode_sector t.parent, c.in_ok-_parent-2._parent)
+      (omega arith) c.requires.within.directory (omega arith) c.requires.within.parent);
+  room = search rules;
+  cause = search rules;
+  looked = search rules;
+}

@@ -1,4 +1,4 @@
-use Rattle.std.proofs.Common.{◌≡◌, ◌<◌, ◌≤◌, ◌+◌, ◌/◌, ℕ, true, List, ◌++◌, length, sym, ap, subst, ◌∙◌, refl, arith, Option, IsSomeAnd, IfSome}
+use Rattle.std.proofs.Common.{◌≡◌, ◌<◌, ◌≤◌, ◌+◌, ◌/◌, ℕ, true, List, ◌++◌, length, sym, ap, subst, ◌∙◌, refl, arith, Option, IsSomeAnd, IfSome, rules}
 use Rattle.files_model.specs.declared.attributes.Attr.{Attr}
 use Rattle.files_model.specs.declared.call.Call.TheVariants.{Symlink}
 use Rattle.files_model.specs.declared.reply.Reply.TheVariants as reply
@@ -113,5 +113,8 @@ returns-clause-planned g c = λ tells d told is free.
     (c.take_new.ensures ∙ ap (taken new) c.take_text.ensures ∙ sym (taken-both held new blocks)) c.take.ensures made refl c.none_freed.ensures.blocks c.none_freed.ensures.inode
 
 pub returns-clause-takes : goal.returns-clause-takes
-returns-clause-takes g c = taken-from c.args.sets.now (text_list c.in-Some-choose_text.held ++ new_list c.in-Some.laid.new) c.in-Ok.number c.take_new.new.blocks c.take.new.self
-    (c.take_new.ensures ∙ ap (taken (new_list c.in-Some.laid.new)) c.take_text.ensures ∙ sym (taken-both (text_list c.in-Some-choose_text.held) (new_list c.in-Some.laid.new) c.args.sets.now.blocks)) c.take.ensures
+returns-clause-takes g c = record {
+  takes = taken-from c.args.sets.now (text_list c.in-Some-choose_text.held ++ new_list c.in-Some.laid.new) c.in-Ok.number c.take_new.new.blocks c.take.new.self
+      (c.take_new.ensures ∙ ap (taken (new_list c.in-Some.laid.new)) c.take_text.ensures ∙ sym (taken-both (text_list c.in-Some-choose_text.held) (new_list c.in-Some.laid.new) c.args.sets.now.blocks)) c.take.ensures;
+  kept = search rules;
+}

@@ -1,4 +1,4 @@
-use Rattle.std.proofs.Common.{◌≡◌, ◌<◌, ◌≤◌, ◌+◌, ℕ, List, length, sym, ap, subst, ◌∙◌, refl, arith}
+use Rattle.std.proofs.Common.{◌≡◌, ◌<◌, ◌≤◌, ◌+◌, ℕ, List, length, sym, ap, subst, ◌∙◌, refl, arith, rules}
 use Rattle.files_model.specs.declared.call.Call.TheVariants.{Symlink}
 use Rattle.files_model.specs.declared.reply.Reply.TheVariants as reply
 use Rattle.files_model.specs.declared.reply.Stat.{Stat}
@@ -58,4 +58,4 @@ returns-clause-planned g c = λ tells d told free empty.
     (c.in_ok-make_in_place.ensures.planned tells told.strong d may empty) refl c.none_freed.ensures.blocks c.none_freed.ensures.inode
 
 pub returns-clause-takes : goal.returns-clause-takes
-returns-clause-takes g c = taken-from c.args.sets.now (text_list c.in-Some.held) c.in-Ok.number c.take_text.new.blocks c.take.new.self c.take_text.ensures c.take.ensures
+returns-clause-takes g c = record { takes = taken-from c.args.sets.now (text_list c.in-Some.held) c.in-Ok.number c.take_text.new.blocks c.take.new.self c.take_text.ensures c.take.ensures; kept = search rules }

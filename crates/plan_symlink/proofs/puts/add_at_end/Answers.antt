@@ -1,4 +1,4 @@
-use Rattle.std.proofs.Common.{◌≡◌, ℕ, List, ◌++◌, [], ◌∷◌, ap, sym, ◌∙◌, subst}
+use Rattle.std.proofs.Common.{◌≡◌, ℕ, List, ◌++◌, [], ◌∷◌, ap, sym, ◌∙◌, subst, rules}
 use Rattle.longer_plans.specs.SymlinkPuts.{text_puts}
 use Rattle.stable.specs.Puts.{with_put, Reserved}
 use Rattle.v7_map.specs.Image.{inode_sector}
@@ -25,13 +25,18 @@ returns-clause-planned g c = λ tells strong dir name wanted cred d target new m
     (ap (λ (r : Reserved). r.puts) c.in_ok-_longer.ensures.added) (c.in_ok-_longer.ensures.put tells)
     (link-room image dir name c.args.text.now wanted cred c.args.now d c.args.ino strong makes.may.symlink past) past
 
-pub returns-clause-fits : goal.returns-clause-fits
-returns-clause-fits g c =
-    let S = g.S.Stable in let longer = c.args.longer.now in
-    let l0 = ap (λ (l : List (ℕ × List ℕ)). l ++ text_puts c.args.text.now 0 (text_list c.args.held.now)) c.requires.plan.0 in
-    let l1 = ap (λ (r : Reserved). r.puts) c.in_ok-_inode.ensures.added ∙ ap (λ l. with_put l (inode_sector c.args.ino, c.in_ok-_inode._inode)) l0 in
-    let l2 = ap (λ (r : Reserved). r.puts) c.in_ok-_slot.ensures.added ∙ ap (λ l. l ++ (c.args.entry.now.sector, c.in_ok-_slot._slot) ∷ []) l1 in
-    let l3 = ap (λ (r : Reserved). r.puts) c.add_map.ensures ∙ ap (λ l. l ++ map_puts longer.map) l2 in
-    let l4 = ap (λ (r : Reserved). r.puts) c.in_ok-_longer.ensures.added ∙ ap (λ l. with_put l (inode_sector c.args.entry.now.directory, c.in_ok-_longer._longer)) l3 in
-    subst (CanBePut (S.sector_count c.args.store.now) 6) (sym l4)
-    (fits-link_at_end (S.sector_count c.args.store.now) c.args.ino c.args.entry.now c.requires.within.0 c.args.text.now c.args.held.now c.requires.within.1 c.in_ok-_inode._inode c.in_ok-_slot._slot c.in_ok-_longer._longer longer c.requires.longer.0)
+pub returns-clause-built : goal.returns-clause-built
+returns-clause-built g c = record {
+  fits =
+      let S = g.S.Stable in let longer = c.args.longer.now in
+      let l0 = ap (λ (l : List (ℕ × List ℕ)). l ++ text_puts c.args.text.now 0 (text_list c.args.held.now)) c.requires.plan.0 in
+      let l1 = ap (λ (r : Reserved). r.puts) c.in_ok-_inode.ensures.added ∙ ap (λ l. with_put l (inode_sector c.args.ino, c.in_ok-_inode._inode)) l0 in
+      let l2 = ap (λ (r : Reserved). r.puts) c.in_ok-_slot.ensures.added ∙ ap (λ l. l ++ (c.args.entry.now.sector, c.in_ok-_slot._slot) ∷ []) l1 in
+      let l3 = ap (λ (r : Reserved). r.puts) c.add_map.ensures ∙ ap (λ l. l ++ map_puts longer.map) l2 in
+      let l4 = ap (λ (r : Reserved). r.puts) c.in_ok-_longer.ensures.added ∙ ap (λ l. with_put l (inode_sector c.args.entry.now.directory, c.in_ok-_longer._longer)) l3 in
+      subst (CanBePut (S.sector_count c.args.store.now) 6) (sym l4)
+      (fits-link_at_end (S.sector_count c.args.store.now) c.args.ino c.args.entry.now c.requires.within.0 c.args.text.now c.args.held.now c.requires.within.1 c.in_ok-_inode._inode c.in_ok-_slot._slot c.in_ok-_longer._longer longer c.requires.longer.0);
+  room = search rules;
+  cause = search rules;
+  looked = search rules;
+}

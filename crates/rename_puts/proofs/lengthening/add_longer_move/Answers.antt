@@ -1,4 +1,4 @@
-use Rattle.std.proofs.Common.{◌≡◌, [], ◌∷◌, ◌++◌, cond, get_or, ap, sym, subst, ◌∙◌, arith}
+use Rattle.std.proofs.Common.{◌≡◌, [], ◌∷◌, ◌++◌, cond, get_or, ap, sym, subst, ◌∙◌, arith, rules}
 use Rattle.files_model.specs.Answers.{zeros}
 use Rattle.stable.specs.Puts.{put_all, with_put, Reserved}
 use Rattle.stable.specs.Store.{Image}
@@ -30,15 +30,20 @@ returns-clause-planned g c = λ tells strong call target new x.
     (ap (λ (r : Reserved). r.puts) c.in_ok-_times.ensures.added) (c.in_ok-_times.ensures.put tells)
     c.requires.within.old.past
 
-pub returns-clause-fits : goal.returns-clause-fits
-returns-clause-fits g c =
-    let S = g.S.Stable in
-    let moved = c.args.moved.now in
-    let longer = c.args.longer.now in
-    let l1 = ap (λ (r : Reserved). r.puts) c.in_ok-_new.ensures.added ∙ ap (λ l. l ++ (moved.new.sector, c.in_ok-_new._new) ∷ []) c.requires.empty in
-    let l2 = ap (λ (r : Reserved). r.puts) c.add_map.ensures ∙ ap (λ l. l ++ map_puts longer.map) l1 in
-    let l3 = ap (λ (r : Reserved). r.puts) c.in_ok-_longer.ensures.added ∙ ap (λ l. with_put l (inode_sector moved.new.directory, c.in_ok-_longer._longer)) l2 in
-    let l4 = ap (λ (r : Reserved). r.puts) c.in_ok-_old.ensures.added ∙ ap (λ l. with_put l (moved.old.sector, c.in_ok-_old._old)) l3 in
-    let l5 = ap (λ (r : Reserved). r.puts) c.in_ok-_times.ensures.added ∙ ap (λ l. with_put l (inode_sector moved.old.directory, c.in_ok-_times._times)) l4 in
-    subst (CanBePut (S.sector_count c.args.store.now) 5) (sym l5)
-    (fits-longer (S.sector_count c.args.store.now) moved longer c.requires.within c.requires.longer.0 c.in_ok-_new._new c.in_ok-_longer._longer c.in_ok-_old._old c.in_ok-_times._times)
+pub returns-clause-built : goal.returns-clause-built
+returns-clause-built g c = record {
+  fits =
+      let S = g.S.Stable in
+      let moved = c.args.moved.now in
+      let longer = c.args.longer.now in
+      let l1 = ap (λ (r : Reserved). r.puts) c.in_ok-_new.ensures.added ∙ ap (λ l. l ++ (moved.new.sector, c.in_ok-_new._new) ∷ []) c.requires.empty in
+      let l2 = ap (λ (r : Reserved). r.puts) c.add_map.ensures ∙ ap (λ l. l ++ map_puts longer.map) l1 in
+      let l3 = ap (λ (r : Reserved). r.puts) c.in_ok-_longer.ensures.added ∙ ap (λ l. with_put l (inode_sector moved.new.directory, c.in_ok-_longer._longer)) l2 in
+      let l4 = ap (λ (r : Reserved). r.puts) c.in_ok-_old.ensures.added ∙ ap (λ l. with_put l (moved.old.sector, c.in_ok-_old._old)) l3 in
+      let l5 = ap (λ (r : Reserved). r.puts) c.in_ok-_times.ensures.added ∙ ap (λ l. with_put l (inode_sector moved.old.directory, c.in_ok-_times._times)) l4 in
+      subst (CanBePut (S.sector_count c.args.store.now) 5) (sym l5)
+      (fits-longer (S.sector_count c.args.store.now) moved longer c.requires.within c.requires.longer.0 c.in_ok-_new._new c.in_ok-_longer._longer c.in_ok-_old._old c.in_ok-_times._times);
+  room = search rules;
+  cause = search rules;
+  looked = search rules;
+}

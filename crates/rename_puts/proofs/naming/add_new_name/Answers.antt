@@ -1,4 +1,4 @@
-use Rattle.std.proofs.Common.{◌≡◌, true, [], ◌∷◌, ◌++◌, ap, sym, subst, ◌∙◌}
+use Rattle.std.proofs.Common.{◌≡◌, true, [], ◌∷◌, ◌++◌, ap, sym, subst, ◌∙◌, rules}
 use Rattle.stable.specs.Puts.{put_all, Reserved}
 use Rattle.stable.specs.Store.{Image}
 use Rattle.v7_map.specs.Image.{sector_at, is_inode}
@@ -27,11 +27,16 @@ returns-clause-planned g c = λ tells strong call x.
     (c.in_ok-add_one.ensures.added tells 1 (subst (λ n. CanBePut n 1 c.add_slot.new.plan.puts) (sym c.in_ok-_slot.ensures.looked.sectors) can)
     (subst (λ (m : Image). is_inode m place.directory ≡ true) (sym same) inside) ((place.sector, c.in_ok-_slot._slot) ∷ []) l1))
 
-pub returns-clause-fits : goal.returns-clause-fits
-returns-clause-fits g c =
-    let S = g.S.Stable in
-    let place = c.args.place.now in
-    let l1 = ap (λ (r : Reserved). r.puts) c.in_ok-_slot.ensures.added ∙ ap (λ l. l ++ (place.sector, c.in_ok-_slot._slot) ∷ []) c.requires.empty in
-    let can = subst (CanBePut (S.sector_count c.args.store.now) 1) (sym l1) (one-put (S.sector_count c.args.store.now) place.sector c.in_ok-_slot._slot c.requires.within.past c.requires.within.slot) in
-    subst (λ n. CanBePut n 2 c.add_one.new.plan.puts) c.in_ok-_slot.ensures.looked.sectors
-    (c.in_ok-add_one.ensures.fits 1 (subst (λ n. CanBePut n 1 c.add_slot.new.plan.puts) (sym c.in_ok-_slot.ensures.looked.sectors) can))
+pub returns-clause-built : goal.returns-clause-built
+returns-clause-built g c = record {
+  fits =
+      let S = g.S.Stable in
+      let place = c.args.place.now in
+      let l1 = ap (λ (r : Reserved). r.puts) c.in_ok-_slot.ensures.added ∙ ap (λ l. l ++ (place.sector, c.in_ok-_slot._slot) ∷ []) c.requires.empty in
+      let can = subst (CanBePut (S.sector_count c.args.store.now) 1) (sym l1) (one-put (S.sector_count c.args.store.now) place.sector c.in_ok-_slot._slot c.requires.within.past c.requires.within.slot) in
+      subst (λ n. CanBePut n 2 c.add_one.new.plan.puts) c.in_ok-_slot.ensures.looked.sectors
+      (c.in_ok-add_one.ensures.fits 1 (subst (λ n. CanBePut n 1 c.add_slot.new.plan.puts) (sym c.in_ok-_slot.ensures.looked.sectors) can));
+  room = search rules;
+  cause = search rules;
+  looked = search rules;
+}

@@ -1,4 +1,4 @@
-use Rattle.std.proofs.Common.{◌≡◌, ℕ, ◌+◌, ◌<◌, ◌≤◌, true, List, [], ◌∷◌, ◌++◌, length, if◌then◌else◌, min, max, ap, sym, subst, ◌∙◌, arith}
+use Rattle.std.proofs.Common.{◌≡◌, ℕ, ◌+◌, ◌<◌, ◌≤◌, true, List, [], ◌∷◌, ◌++◌, length, if◌then◌else◌, min, max, ap, sym, subst, ◌∙◌, arith, rules}
 use Rattle.stable.specs.Puts.{put_all, with_put, Reserved}
 use Rattle.stable.specs.Store.{Image}
 use Rattle.v7_map.specs.Image.{is_inode, inode_at, inode_sector}
@@ -21,7 +21,7 @@ add_timed-requires-clause-within g c =
     let S = g.S.Stable in
     let a = c.args.moved.now.old.directory in let b = c.args.moved.now.new.directory in
     let within = c.requires.within in
-    subst (λ n. TimedWithin n c.before-first.result) (sym c.in_ok-add_moved.ensures.looked.sectors)
+    subst (λ n. TimedWithin n c.before-first.result) (sym c.in_ok-add_moved.ensures.built.looked.sectors)
     (subst (TimedWithin (S.sector_count c.args.store.now)) (sym c.before-first.ensures)
     (of-before (λ d. inode_sector d < S.sector_count c.args.store.now) (min a b) (max a b) c.args.lost.now.node
     (of-min (λ d. inode_sector d < S.sector_count c.args.store.now) a b within.old.directory within.new.directory) (of-max (λ d. inode_sector d < S.sector_count c.args.store.now) a b within.old.directory within.new.directory)))
@@ -31,28 +31,33 @@ add_timed-requires-2-clause-within g c =
     let S = g.S.Stable in
     let a = c.args.moved.now.old.directory in let b = c.args.moved.now.new.directory in
     let within = c.requires.within in
-    subst (λ n. TimedWithin n c.after-last.result) (sym (c.in_ok-_node.ensures.looked.sectors ∙ c.in_ok-add_timed.ensures.looked.sectors ∙ c.in_ok-add_moved.ensures.looked.sectors))
+    subst (λ n. TimedWithin n c.after-last.result) (sym (c.in_ok-_node.ensures.looked.sectors ∙ c.in_ok-add_timed.ensures.looked.sectors ∙ c.in_ok-add_moved.ensures.built.looked.sectors))
     (subst (TimedWithin (S.sector_count c.args.store.now)) (sym c.after-last.ensures)
     (of-after (λ d. inode_sector d < S.sector_count c.args.store.now) (min a b) (max a b) c.args.lost.now.node
     (of-min (λ d. inode_sector d < S.sector_count c.args.store.now) a b within.old.directory within.new.directory) (of-max (λ d. inode_sector d < S.sector_count c.args.store.now) a b within.old.directory within.new.directory)))
 
-pub returns-clause-fits : goal.returns-clause-fits
-returns-clause-fits g c =
-    let S = g.S.Stable in
-    let a = c.args.moved.now.old.directory in let b = c.args.moved.now.new.directory in let r = c.args.lost.now.node in
-    let n0 = c.in_ok-add_moved.ensures.looked.sectors in
-    let n1 = c.in_ok-add_timed.ensures.looked.sectors ∙ n0 in
-    let n2 = c.in_ok-_node.ensures.looked.sectors ∙ n1 in
-    let few = sides-few (min a b) (max a b) r in
-    let l1 : length (listed c.before-first.result) ≡ length (listed (before (min a b) (max a b) r)) = ap (λ t. length (listed t)) c.before-first.ensures in
-    let l2 : length (listed c.after-last.result) ≡ length (listed (after (min a b) (max a b) r)) = ap (λ t. length (listed t)) c.after-last.ensures in
-    let second = subst (λ n. CanBePut n (2 + length (listed c.before-first.result)) c.add_timed.new.plan.puts) n0
-    (c.in_ok-add_timed.ensures.fits 2 (subst (λ n. CanBePut n 2 c.add_moved.new.plan.puts) (sym n0) c.in_ok-add_moved.ensures.fits)) in
-    let third = subst (CanBePut (S.sector_count c.args.store.now) (2 + length (listed c.before-first.result) + 1)) (sym (ap (λ (q : Reserved). q.puts) c.in_ok-_node.ensures.added))
-    (one-more (S.sector_count c.args.store.now) (2 + length (listed c.before-first.result)) c.add_timed.new.plan.puts (inode_sector r, c.in_ok-_node._node) second (omega arith) c.requires.node) in
-    let last = subst (λ n. CanBePut n (2 + length (listed c.before-first.result) + 1 + length (listed c.after-last.result)) c.add_timed-2.new.plan.puts) n2
-    (c.in_ok-add_timed-2.ensures.fits (2 + length (listed c.before-first.result) + 1) (subst (λ n. CanBePut n (2 + length (listed c.before-first.result) + 1) c.add_unlinked.new.plan.puts) (sym n2) third)) in
-    can-equal (S.sector_count c.args.store.now) (2 + length (listed c.before-first.result) + 1 + length (listed c.after-last.result)) 5 c.add_timed-2.new.plan.puts (omega arith) last
+pub returns-clause-built : goal.returns-clause-built
+returns-clause-built g c = record {
+  fits =
+      let S = g.S.Stable in
+      let a = c.args.moved.now.old.directory in let b = c.args.moved.now.new.directory in let r = c.args.lost.now.node in
+      let n0 = c.in_ok-add_moved.ensures.built.looked.sectors in
+      let n1 = c.in_ok-add_timed.ensures.looked.sectors ∙ n0 in
+      let n2 = c.in_ok-_node.ensures.looked.sectors ∙ n1 in
+      let few = sides-few (min a b) (max a b) r in
+      let l1 : length (listed c.before-first.result) ≡ length (listed (before (min a b) (max a b) r)) = ap (λ t. length (listed t)) c.before-first.ensures in
+      let l2 : length (listed c.after-last.result) ≡ length (listed (after (min a b) (max a b) r)) = ap (λ t. length (listed t)) c.after-last.ensures in
+      let second = subst (λ n. CanBePut n (2 + length (listed c.before-first.result)) c.add_timed.new.plan.puts) n0
+      (c.in_ok-add_timed.ensures.fits 2 (subst (λ n. CanBePut n 2 c.add_moved.new.plan.puts) (sym n0) c.in_ok-add_moved.ensures.built.fits)) in
+      let third = subst (CanBePut (S.sector_count c.args.store.now) (2 + length (listed c.before-first.result) + 1)) (sym (ap (λ (q : Reserved). q.puts) c.in_ok-_node.ensures.added))
+      (one-more (S.sector_count c.args.store.now) (2 + length (listed c.before-first.result)) c.add_timed.new.plan.puts (inode_sector r, c.in_ok-_node._node) second (omega arith) c.requires.node) in
+      let last = subst (λ n. CanBePut n (2 + length (listed c.before-first.result) + 1 + length (listed c.after-last.result)) c.add_timed-2.new.plan.puts) n2
+      (c.in_ok-add_timed-2.ensures.fits (2 + length (listed c.before-first.result) + 1) (subst (λ n. CanBePut n (2 + length (listed c.before-first.result) + 1) c.add_unlinked.new.plan.puts) (sym n2) third)) in
+      can-equal (S.sector_count c.args.store.now) (2 + length (listed c.before-first.result) + 1 + length (listed c.after-last.result)) 5 c.add_timed-2.new.plan.puts (omega arith) last;
+  room = search rules;
+  cause = search rules;
+  looked = search rules;
+}
 
 pub returns-clause-planned : goal.returns-clause-planned
 returns-clause-planned g c = λ tells strong call x.
@@ -60,10 +65,10 @@ returns-clause-planned g c = λ tells strong call x.
     let image : Image = S.image c.args.store.now in
     let moved = c.args.moved.now in
     let a = moved.old.directory in let b = moved.new.directory in let r = c.args.lost.now.node in
-    let e0 = c.in_ok-add_moved.ensures.looked.image in
+    let e0 = c.in_ok-add_moved.ensures.built.looked.image in
     let e1 = c.in_ok-add_timed.ensures.looked.image ∙ e0 in
     let e2 = c.in_ok-_node.ensures.looked.image ∙ e1 in
-    let n0 = c.in_ok-add_moved.ensures.looked.sectors in
+    let n0 = c.in_ok-add_moved.ensures.built.looked.sectors in
     let n1 = c.in_ok-add_timed.ensures.looked.sectors ∙ n0 in
     let n2 = c.in_ok-_node.ensures.looked.sectors ∙ n1 in
     let h = c.in_ok-add_moved.ensures.moved tells in
@@ -71,7 +76,7 @@ returns-clause-planned g c = λ tells strong call x.
     let old : is_inode image a ≡ true = subst (λ d. is_inode image d ≡ true) (sym x.stands.old_directory) (live-number image call.from x.old_node strong x.replacement.live_from) in
     let new : is_inode image b ≡ true = subst (λ d. is_inode image d ≡ true) (sym x.stands.new_directory) (live-number image call.to x.new_node strong x.replacement.live_to) in
     let low = of-min (λ d. is_inode image d ≡ true) a b old new in let high = of-max (λ d. is_inode image d ≡ true) a b old new in
-    let can0 = c.in_ok-add_moved.ensures.fits in
+    let can0 = c.in_ok-add_moved.ensures.built.fits in
     let can1 = subst (λ n. CanBePut n (2 + length (listed c.before-first.result)) c.add_timed.new.plan.puts) n0 (c.in_ok-add_timed.ensures.fits 2 (subst (λ n. CanBePut n 2 c.add_moved.new.plan.puts) (sym n0) can0)) in
     let added = ap (λ (q : Reserved). q.puts) c.in_ok-_node.ensures.added in
     let can2 = subst (CanBePut (S.sector_count c.args.store.now) (2 + length (listed c.before-first.result) + 1)) (sym added)

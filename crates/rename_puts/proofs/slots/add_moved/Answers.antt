@@ -1,4 +1,4 @@
-use Rattle.std.proofs.Common.{◌≡◌, [], ◌∷◌, ◌++◌, set, None, ap, sym, subst, ◌∙◌}
+use Rattle.std.proofs.Common.{◌≡◌, [], ◌∷◌, ◌++◌, set, None, ap, sym, subst, ◌∙◌, rules}
 use Rattle.stable.specs.Puts.{put_all, with_put, Reserved}
 use Rattle.stable.specs.Store.{Image}
 use Rattle.v7_map.specs.Image.{sector_at}
@@ -26,14 +26,19 @@ returns-clause-moved g c = λ tells.
       all = ap (λ (r : Reserved). r.puts) c.in_ok-_old.ensures.added ∙ ap (λ l. with_put l (moved.old.sector, b2)) l1 ∙ sym (merged-with ((moved.new.sector, b1) ∷ []) (moved.old.sector, b2));
     }
 
-pub returns-clause-fits : goal.returns-clause-fits
-returns-clause-fits g c =
-    let S = g.S.Stable in
-    let moved = c.args.moved.now in
-    let b1 = c.in_ok-_new._new in
-    let b2 = c.in_ok-_old._old in
-    let within = c.requires.within in
-    let l1 = ap (λ (r : Reserved). r.puts) c.in_ok-_new.ensures.added ∙ ap (λ l. l ++ (moved.new.sector, b1) ∷ []) c.requires.empty in
-    let l2 = ap (λ (r : Reserved). r.puts) c.in_ok-_old.ensures.added ∙ ap (λ l. with_put l (moved.old.sector, b2)) l1 in
-    subst (CanBePut (S.sector_count c.args.store.now) 2) (sym l2)
-    (one-more (S.sector_count c.args.store.now) 1 ((moved.new.sector, b1) ∷ []) (moved.old.sector, b2) (one-put (S.sector_count c.args.store.now) moved.new.sector b1 within.new.past within.new.slot) within.old.past within.old.slot)
+pub returns-clause-built : goal.returns-clause-built
+returns-clause-built g c = record {
+  fits =
+      let S = g.S.Stable in
+      let moved = c.args.moved.now in
+      let b1 = c.in_ok-_new._new in
+      let b2 = c.in_ok-_old._old in
+      let within = c.requires.within in
+      let l1 = ap (λ (r : Reserved). r.puts) c.in_ok-_new.ensures.added ∙ ap (λ l. l ++ (moved.new.sector, b1) ∷ []) c.requires.empty in
+      let l2 = ap (λ (r : Reserved). r.puts) c.in_ok-_old.ensures.added ∙ ap (λ l. with_put l (moved.old.sector, b2)) l1 in
+      subst (CanBePut (S.sector_count c.args.store.now) 2) (sym l2)
+      (one-more (S.sector_count c.args.store.now) 1 ((moved.new.sector, b1) ∷ []) (moved.old.sector, b2) (one-put (S.sector_count c.args.store.now) moved.new.sector b1 within.new.past within.new.slot) within.old.past within.old.slot);
+  room = search rules;
+  cause = search rules;
+  looked = search rules;
+}

@@ -11,7 +11,7 @@ pub carry_out-requires-clause-fit : goal.carry_out-requires-clause-fit
 carry_out-requires-clause-fit g c =
     let S = g.S.Stable in
     let made = c.in-Ok.ensures in
-    fewer_fit (S.sector_count c.args.store.now) (S.sector_count c.plan_names.new.store) c.args.sets.now c.plan_names.new.sets made.looked.sectors made.takes c.requires.rest.fits
+    fewer_fit (S.sector_count c.args.store.now) (S.sector_count c.plan_names.new.store) c.args.sets.now c.plan_names.new.sets made.looked.sectors made.takes.takes c.requires.rest.fits
 
 pub returns-in-Ok-clause-rest : goal.returns-in-Ok-clause-rest
 returns-in-Ok-clause-rest g c =

@@ -3,7 +3,7 @@ use Rattle.stable.specs.Store.{Same}
 use Rattle.presto_unit.specs.Parts.{rig_of}
 use Rattle.run_lines.specs.Refusals.{unit_status}
 use Rattle.run_lines.proofs.Statuses.{unit_not}
-use Rattle.run_lines.proofs.Overlays.{unit_store}
+use Rattle.run_lines.specs.Overlays.{unit_store}
 use Rattle.volume_tool.specs.Checked.{ChecksAs}
 use Rattle.volume_tool.specs.Course.{NoUnit}
 use Rattle.volume_tool.specs.Kept.{Keeps}

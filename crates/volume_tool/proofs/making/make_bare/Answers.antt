@@ -1,6 +1,6 @@
 use Rattle.std.proofs.Common.{arith}
 use Rattle.presto_unit.specs.Parts.{rig_of}
-use Rattle.run_lines.proofs.Overlays.{unit_store}
+use Rattle.run_lines.specs.Overlays.{unit_store}
 use Rattle.volume_tool.specs.Asking.{plan_read}
 use Rattle.volume_tool.proofs.Boards.{makes_unit, puts_state}
 use Rattle.volume_tool.proofs.making.make_bare.Goals as goal
